@@ -1,0 +1,153 @@
+use crate::{
+    Failed, MemorySink, MemorySource, ReadErr, ReadSource, Sink, Source, WriteSink, read_script,
+    write_all,
+};
+use std::alloc::{AllocError, Global};
+use std::io;
+use std::io::{ErrorKind, Read, Write};
+use std::test::Fail;
+
+const TEXT: &[u8; 7] = b"abcdefg";
+
+// A source of TEXT in pieces of 3 that fails at the given reads.
+fn source(alloc: Global, fail_at: &[u32]) -> Result<MemorySource, AllocError> {
+    let bytes = Vec::from_slice(alloc, TEXT)?;
+    let fail_at = Vec::from_slice(alloc, fail_at)?;
+    Ok(MemorySource::new(bytes, 3, fail_at))
+}
+
+#[test]
+fn a_memory_source_gives_pieces_and_fails_where_planned(rt: HostRuntime) -> Result<(), Fail> {
+    let mut source = source(rt.alloc(), &[2, 4])?;
+    let mut buf = [b'-'; 4];
+    for (want, holds) in [
+        (Ok(3), b"abc-"),
+        (Err(Failed), b"abc-"),
+        (Ok(3), b"def-"),
+        (Err(Failed), b"def-"),
+        (Ok(1), b"gef-"),
+        (Ok(0), b"gef-"),
+    ] {
+        assert_eq!(rt; source.read(&mut buf), want);
+        assert_eq!(rt; &buf, holds);
+    }
+    Ok(())
+}
+
+#[test]
+fn a_memory_sink_takes_pieces_up_to_its_room(rt: HostRuntime) -> Result<(), Fail> {
+    let fail_at = Vec::from_slice(rt.alloc(), &[2])?;
+    let mut sink = MemorySink::new(rt.alloc(), 5, 3, fail_at)?;
+    for (want, holds) in [
+        (Ok(3), b"abc".as_slice()),
+        (Err(Failed), b"abc".as_slice()),
+        (Ok(2), b"abcab".as_slice()),
+        (Err(Failed), b"abcab".as_slice()),
+    ] {
+        assert_eq!(rt; sink.write(TEXT), want);
+        assert_eq!(rt; sink.bytes(), holds);
+    }
+    Ok(())
+}
+
+#[test]
+fn a_script_is_read_up_to_the_limit(rt: HostRuntime) -> Result<(), Fail> {
+    for (limit, fail_at, want) in [
+        (7, [9].as_slice(), None),
+        (6, [9].as_slice(), Some(ReadErr::TooLong)),
+        (7, [4].as_slice(), Some(ReadErr::ReadFault)),
+        (2, [2].as_slice(), Some(ReadErr::TooLong)),
+        (2, [1].as_slice(), Some(ReadErr::ReadFault)),
+    ] {
+        let mut source = source(rt.alloc(), fail_at)?;
+        match read_script(rt.alloc(), &mut source, limit) {
+            Ok(script) => assert!(rt;
+                script.as_slice() == TEXT.as_slice() && want.is_none(),
+                "at {limit}"
+            ),
+            Err(refusal) => assert_eq!(rt; Some(refusal), want, "at {limit}"),
+        }
+    }
+    Ok(())
+}
+
+#[test]
+fn a_text_is_written_as_far_as_there_is_room(rt: HostRuntime) -> Result<(), Fail> {
+    for (room, fail_at, want, holds) in [
+        (7, [9].as_slice(), Ok(()), b"abcdefg".as_slice()),
+        (5, [9].as_slice(), Err(Failed), b"abcde".as_slice()),
+        (7, [2].as_slice(), Err(Failed), b"abc".as_slice()),
+        (0, [9].as_slice(), Err(Failed), b"".as_slice()),
+    ] {
+        let fail_at = Vec::from_slice(rt.alloc(), fail_at)?;
+        let mut sink = MemorySink::new(rt.alloc(), room, 3, fail_at)?;
+        assert_eq!(rt; write_all(&mut sink, TEXT), want, "room {room}");
+        assert_eq!(rt; sink.bytes(), holds, "room {room}");
+    }
+    Ok(())
+}
+
+// A reader that fails once, and then gives what `inner` gives.
+#[derive(Drop)]
+struct FailsOnce<'a> {
+    has_failed: bool,
+    inner: &'a [u8],
+}
+
+impl Read for FailsOnce<'_> {
+    fn read(&mut self, buf: &mut [u8]) -> io::Result<usize> {
+        if self.has_failed {
+            return self.inner.read(buf);
+        }
+        self.has_failed = true;
+        Err(io::Error::from(ErrorKind::TimedOut))
+    }
+}
+
+// A writer that takes nothing.
+#[derive(Drop)]
+struct Full;
+
+impl Write for Full {
+    fn write(&mut self, _buf: &[u8]) -> io::Result<usize> {
+        Ok(0)
+    }
+
+    fn flush(&mut self) -> io::Result<()> {
+        Ok(())
+    }
+}
+
+// What no contract says of the adapters: that the bytes are those of the reader and the writer.
+#[test]
+fn the_adapters_pass_bytes_on_and_faults_too(rt: HostRuntime) -> Result<(), Fail> {
+    let long = [b'x'; 10_000];
+    let mut source = ReadSource::new(FailsOnce {
+        has_failed: false,
+        inner: &long,
+    });
+    match read_script(rt.alloc(), &mut source, 10_000) {
+        Ok(_) => panic!(rt; "the fault is lost"),
+        Err(refusal) => assert_eq!(rt; refusal, ReadErr::ReadFault),
+    }
+    let script = read_script(rt.alloc(), &mut source, 10_000)?;
+    assert!(rt; script.as_slice() == long.as_slice());
+
+    let mut out = Vec::new(rt.alloc());
+    assert_eq!(rt; write_all(&mut WriteSink::new(&mut out), &long), Ok(()));
+    assert!(rt; out.as_slice() == long.as_slice());
+    assert_eq!(rt; write_all(&mut WriteSink::new(Full), TEXT), Err(Failed));
+    Ok(())
+}
+
+// With the test's own standard input, which is empty, and its standard output.
+#[test]
+fn the_adapters_fit_the_standard_streams(rt: HostRuntime) -> Result<(), Fail> {
+    let script = read_script(rt.alloc(), &mut ReadSource::new(rt.reader()), 10)?;
+    assert_eq!(rt; script.len(), 0);
+    assert_eq!(rt;
+        write_all(&mut WriteSink::new(io::writer(&rt)), TEXT),
+        Ok(())
+    );
+    Ok(())
+}
