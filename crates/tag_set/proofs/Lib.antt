@@ -1,0 +1,3 @@
+pub mod TagBytes
+pub mod StrippedWords
+pub mod TagList
