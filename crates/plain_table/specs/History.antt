@@ -1,0 +1,22 @@
+-- Legal histories: each event is legal in the table that the events before it left, and has the reply of its row.
+use Rattle.std.specs.Prelude.{◌≡◌, List, [], ◌∷◌}
+use Rattle.plain_table.specs.declared.events.Event.{Event}
+use Rattle.plain_table.specs.Table.{Table}
+use Rattle.plain_table.specs.Rows.{row}
+
+-- the event is legal, with the reply that it was given
+abbrev pub IsLegal : Table → Event → Type 0
+IsLegal s e = (row s e.by e.act).allowed × (e.said ≡ (row s e.by e.act).reply)
+
+-- the table behind an event
+abbrev pub next : Table → Event → Table
+next s e = (row s e.by e.act).next
+
+abbrev pub IsLegalHistory : Table → List Event → Type 0
+IsLegalHistory s [] = Unit {0}
+IsLegalHistory s (e ∷ es) = IsLegal s e × IsLegalHistory (next s e) es
+
+-- the table behind a history
+abbrev pub after : Table → List Event → Table
+after s [] = s
+after s (e ∷ es) = after (next s e) es

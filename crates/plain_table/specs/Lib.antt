@@ -1,0 +1,12 @@
+pub mod Index
+pub mod Places
+pub mod Cycle
+pub mod Table
+pub mod Rows
+pub mod History
+pub mod Shapes
+pub mod Belongs
+pub mod Ranges
+pub mod Entries
+pub mod Kept
+pub mod Steps

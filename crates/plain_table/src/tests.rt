@@ -1,0 +1,138 @@
+use super::*;
+use std::test::Fail;
+
+const LIMITS: Limits = Limits {
+    seg: 4,
+    ext: 1,
+    tru: 1,
+    objects: 1,
+    mutators: 1,
+    markers: 0,
+};
+
+const SPACE: Space = Space::External;
+
+const FIELD: Field = Field::External { number: 0 };
+
+fn event(act: Act, said: Reply) -> Event {
+    Event { by: 0, act, said }
+}
+
+fn take(index: u32) -> Event {
+    event(Act::Take { space: SPACE }, Reply::Index(index))
+}
+
+fn put(index: u32) -> Event {
+    let act = Act::Put {
+        space: SPACE,
+        index,
+        tag: 0x0f,
+        value: 0xc0,
+    };
+    event(act, Reply::Ok)
+}
+
+fn bind(by: u32, word: u32) -> Event {
+    Event {
+        by,
+        act: Act::Bind { field: FIELD, word },
+        said: Reply::Ok,
+    }
+}
+
+fn name(word: u32) -> Event {
+    event(Act::Name { field: FIELD }, Reply::Word(word))
+}
+
+fn look(word: u32, tag: u8, said: Reply) -> Event {
+    event(
+        Act::Look {
+            space: SPACE,
+            word,
+            tag,
+        },
+        said,
+    )
+}
+
+fn set(tag: u8) -> Event {
+    let act = Act::Set {
+        word: 0x0001_0001,
+        tag,
+        value: 0xc1,
+    };
+    event(act, Reply::Ok)
+}
+
+fn swap(said: u64) -> Event {
+    let act = Act::Swap {
+        word: 0x0001_0000,
+        tag: 0x0f,
+        value: 0xc2,
+    };
+    event(act, Reply::Value(said))
+}
+
+/// A cell is taken, put, bound and read; then it is written by a word, exchanged, and its field forged.
+fn history() -> [Event; 13] {
+    let forge = Act::Forge {
+        number: 0,
+        word: 0x0002_0000,
+    };
+    [
+        event(Act::New { var: 0 }, Reply::Obj(0)),
+        take(1),
+        put(1),
+        bind(0, 0x0001_0000),
+        name(0x0001_0000),
+        look(0x0001_0000, 0x0f, Reply::Value(0xc0)),
+        look(0x0001_0000, 0x17, Reply::Fault),
+        set(0x0f),
+        swap(0xc1),
+        event(forge, Reply::Ok),
+        name(0x0002_0000),
+        look(0x0002_0000, 0x0f, Reply::Fault),
+        look(0x0000_ffff, 0x0f, Reply::Null),
+    ]
+}
+
+/// An event that is wrong behind so many events of the history.
+fn wrong() -> [(usize, Event); 7] {
+    [
+        (1, take(2)),
+        (2, put(2)),
+        (3, put(1)),
+        (3, bind(1, 0x0001_0000)),
+        (5, look(0x0001_0000, 0x17, Reply::Value(0xc0))),
+        (7, set(0x17)),
+        (8, swap(0xc2)),
+    ]
+}
+
+#[test]
+fn a_legal_history_is_made(rt: HostRuntime) -> Result<(), Fail> {
+    let events = history();
+    assert!(rt; replay(rt.alloc(), LIMITS, &events)?);
+    let mut state = State::start(rt.alloc(), LIMITS)?;
+    for event in &events {
+        assert!(rt; step(rt.alloc(), &mut state, event)?, "at {event:?}");
+    }
+    assert!(rt; !state.spent());
+    Ok(())
+}
+
+#[test]
+fn a_wrong_event_is_refused(rt: HostRuntime) -> Result<(), Fail> {
+    for (before, event) in wrong() {
+        let mut events = Vec::new(rt.alloc());
+        let mut state = State::start(rt.alloc(), LIMITS)?;
+        for made in history().iter().take(before) {
+            assert!(rt; step(rt.alloc(), &mut state, made)?, "at {made:?}");
+            events.push(*made)?;
+        }
+        assert!(rt; !step(rt.alloc(), &mut state, &event)?, "at {event:?}");
+        events.push(event)?;
+        assert!(rt; !replay(rt.alloc(), LIMITS, &events)?, "at {event:?}");
+    }
+    Ok(())
+}
