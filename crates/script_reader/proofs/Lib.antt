@@ -1,0 +1,11 @@
+pub mod Splitting
+pub mod Numbers
+pub mod Alone
+pub mod Drafts
+pub mod Named
+pub mod Ink
+pub mod ReadBack
+pub mod OpLines
+pub mod Sorting
+pub mod Rereading
+pub mod HeaderLine

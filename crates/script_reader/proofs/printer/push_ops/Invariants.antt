@@ -1,0 +1,9 @@
+-- Behind the first operations stand their lines.
+use Rattle.std.proofs.Common.{◌≡◌, ◌++◌, string_bytes, take}
+use Rattle.std.specs.List.{flat_map}
+use Rattle.script_reader.specs.Canonical.{op_line}
+use Rattle.script_reader.proofs.printer.push_ops.Given as goal
+
+abbrev pub invariant-loop-op : goal.invariant-loop-op
+invariant-loop-op l =
+    string_bytes l.text ≡ string_bytes l.initial.text ++ flat_map (op_line l.mutator) (take l.op-index l.ops)

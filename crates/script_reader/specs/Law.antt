@@ -1,0 +1,10 @@
+-- What printing and reading have to do with each other.
+use Rattle.std.specs.Prelude.{◌≡◌, Ok}
+use Rattle.plain_table.specs.declared.scripts.Script.{Script}
+use Rattle.script_reader.specs.Grammar.{script_of}
+use Rattle.script_reader.specs.Valid.{IsValidScript}
+use Rattle.script_reader.specs.Canonical.{canonical_of}
+
+-- the canonical text of a valid script spells that script
+abbrev pub PrintedIsReadBack : Type 0
+PrintedIsReadBack = (script : Script) → IsValidScript script → script_of (canonical_of script) ≡ Ok script

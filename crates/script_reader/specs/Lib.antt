@@ -1,0 +1,9 @@
+pub mod Spelling
+pub mod Forms
+pub mod Lines
+pub mod Header
+pub mod Grammar
+pub mod Valid
+pub mod Reading
+pub mod Canonical
+pub mod Law

@@ -1,0 +1,49 @@
+-- What holds of the parts of a valid script while it is read.
+use Rattle.std.specs.Prelude.{◌≡◌, ℕ, ◌+◌, ◌<◌, ◌≤◌, false, Some, length}
+use Rattle.std.specs.List.{All}
+use Rattle.plain_table.specs.declared.scripts.Limits.{Limits}
+use Rattle.plain_table.specs.Rows.{IsTag}
+use Rattle.script_reader.specs.declared.forms.Said.{Said}
+use Rattle.script_reader.specs.declared.lines.Call.{Call}
+use Rattle.script_reader.specs.declared.lines.Counts.{Counts}
+use Rattle.script_reader.specs.declared.lines.Line.{Line}
+use Rattle.script_reader.specs.declared.lines.Line.TheVariants as line
+use Rattle.script_reader.specs.declared.draft.Draft.{Draft}
+use Rattle.script_reader.specs.Lines.{most_operations, most_meets}
+use Rattle.script_reader.specs.Grammar.{cycle_behind}
+use Rattle.script_reader.specs.Valid.{IsVariable, IsTarget, IsValue, IsWord, IsValidOp, IsValidPhase, meet_behind, meets_behind, operations_of}
+
+-- what places may say
+pub record IsSaid (s : Said) : Type 0 where
+  pub variable : IsVariable s.variable
+  pub other : IsVariable s.other
+  pub target : IsTarget s.target
+  pub reference : s.reference < 4
+  pub field : s.field < 2
+  pub global : s.global < 16
+  pub tagged : IsTag s.tag
+  pub word : IsWord s.word
+  pub value : IsValue s.value
+
+-- a valid operation of a mutator below a number
+pub record IsCall (mutators : ℕ) (call : Call) : Type 0 where
+  pub mutator : call.mutator < mutators
+  pub op : IsValidOp call.op
+
+-- a line that may stand there
+abbrev pub IsLine : Counts → Line → Type 0
+IsLine c (line.Operation call) = IsCall c.mutators call × (c.operations < most_operations)
+IsLine c (line.Meeting meet) =
+    (meet_behind c.in_cycle meet ≡ Some (cycle_behind c.in_cycle meet)) × (c.meets < most_meets)
+IsLine c line.Ending = c.in_cycle ≡ false
+
+-- what is read so far of a script with these limits, and its counts
+pub record IsDraft (limits : Limits) (d : Draft) : Type 0 where
+  pub mutators : d.counts.mutators ≡ limits.mutators
+  pub each : All (IsValidPhase limits.mutators) d.phases
+  pub calls : All (IsCall limits.mutators) d.calls
+  pub cycles : meets_behind false d.phases ≡ Some d.counts.in_cycle
+  pub counted : length d.phases ≡ d.counts.meets
+  pub meets : d.counts.meets ≤ most_meets
+  pub held : operations_of d.phases + length d.calls ≤ d.counts.operations
+  pub operations : d.counts.operations ≤ most_operations

@@ -1,0 +1,351 @@
+// The forms of operations, and the reading of their places. Each function computes the definition of
+// `specs/Forms.antt` that its contract names.
+ghost use Rattle.std.specs.Prelude.{◌≡◌, ◌<◌, [], IfOk, IfSome, Err};
+ghost use Rattle.std.specs.Option.{option_map_or};
+ghost use Rattle.script_reader.specs.Spelling.{small_of, words};
+ghost use Rattle.script_reader.specs.Valid.{IsTarget, IsValidOp};
+ghost use Rattle.script_reader.specs.Reading.{IsSaid};
+ghost use Rattle.script_reader.specs.Forms.{first_of, form_of, nothing_said, number_below, op_of, places_of, read_at, read_mutator, read_on, read_places, target_of};
+
+use crate::refusals::Fault;
+use crate::words::{index_word, next_word, small, tag, value, variable};
+use plain_table::Op;
+
+/// The form of an operation, by its name.
+#[derive(Clone, Copy, Debug, PartialEq, Eq)]
+pub enum Form {
+    New,
+    Drop,
+    Link,
+    Fetch,
+    SetG,
+    GetG,
+    Init,
+    Load,
+    Store,
+    Swap,
+    Name,
+    Forge,
+    Raw,
+    RawSet,
+    TNew,
+    TPub,
+    TLoad,
+    TRaw,
+    Share,
+}
+
+/// What stands at a place of a form.
+#[derive(Clone, Copy, Debug, PartialEq, Eq)]
+pub enum Place {
+    Variable,
+    /// A form's second variable.
+    Other,
+    /// A variable, or `-` for none.
+    Target,
+    /// A small number below 4.
+    Reference,
+    /// A small number below 2.
+    Field,
+    /// A small number below 16.
+    Global,
+    Tag,
+    Word,
+    Value,
+}
+
+/// What the places of a line say. A place that the form lacks is left as it was.
+#[derive(Clone, Copy, Debug, PartialEq, Eq)]
+pub struct Said {
+    pub mutator: u32,
+    pub variable: u32,
+    pub other: u32,
+    pub target: Option<u32>,
+    pub reference: u32,
+    pub field: u32,
+    pub global: u32,
+    pub tag: u8,
+    pub word: u32,
+    pub value: u64,
+}
+
+/// The form with this name (`form_of`).
+pub fn form_named(name: &[u8]) -> Option<Form>
+    ensures { result ≡ form_of name.now }
+{
+    if name == b"new".as_slice() {
+        Some(Form::New)
+    } else if name == b"drop".as_slice() {
+        Some(Form::Drop)
+    } else if name == b"link".as_slice() {
+        Some(Form::Link)
+    } else if name == b"fetch".as_slice() {
+        Some(Form::Fetch)
+    } else if name == b"setg".as_slice() {
+        Some(Form::SetG)
+    } else if name == b"getg".as_slice() {
+        Some(Form::GetG)
+    } else if name == b"init".as_slice() {
+        Some(Form::Init)
+    } else if name == b"load".as_slice() {
+        Some(Form::Load)
+    } else if name == b"store".as_slice() {
+        Some(Form::Store)
+    } else if name == b"swap".as_slice() {
+        Some(Form::Swap)
+    } else if name == b"name".as_slice() {
+        Some(Form::Name)
+    } else if name == b"forge".as_slice() {
+        Some(Form::Forge)
+    } else if name == b"raw".as_slice() {
+        Some(Form::Raw)
+    } else if name == b"rawset".as_slice() {
+        Some(Form::RawSet)
+    } else if name == b"tnew".as_slice() {
+        Some(Form::TNew)
+    } else if name == b"tpub".as_slice() {
+        Some(Form::TPub)
+    } else if name == b"tload".as_slice() {
+        Some(Form::TLoad)
+    } else if name == b"traw".as_slice() {
+        Some(Form::TRaw)
+    } else if name == b"share".as_slice() {
+        Some(Form::Share)
+    } else {
+        None
+    }
+}
+
+/// The places of a form, in order (`places_of`).
+fn places(form: Form) -> &'static [Place]
+    ensures { result.now ≡ places_of form }
+{
+    match form {
+        Form::New | Form::Drop | Form::TPub => &[Place::Variable],
+        Form::Link => &[Place::Variable, Place::Reference, Place::Target],
+        Form::Fetch => &[Place::Variable, Place::Other, Place::Reference],
+        Form::SetG => &[Place::Global, Place::Target],
+        Form::GetG => &[Place::Variable, Place::Global],
+        Form::Init | Form::Store | Form::Swap => {
+            &[Place::Variable, Place::Field, Place::Tag, Place::Value]
+        }
+        Form::Load => &[Place::Variable, Place::Field, Place::Tag],
+        Form::Name => &[Place::Variable, Place::Field],
+        Form::Forge => &[Place::Variable, Place::Field, Place::Word],
+        Form::Raw | Form::TRaw => &[Place::Word, Place::Tag],
+        Form::RawSet => &[Place::Word, Place::Tag, Place::Value],
+        Form::TNew => &[Place::Variable, Place::Tag, Place::Value],
+        Form::TLoad => &[Place::Variable, Place::Tag],
+        Form::Share => &[Place::Variable, Place::Other],
+    }
+}
+
+/// The operation of a form whose places say this (`op_of`).
+pub fn operation(form: Form, said: Said) -> Op
+    requires { IsSaid said }
+    ensures value { result ≡ op_of form said }
+    ensures valid { IsValidOp result }
+{
+    let var = said.variable;
+    let Said {
+        other,
+        target,
+        field: f,
+        global: g,
+        reference: k,
+        tag,
+        word,
+        value,
+        ..
+    } = said;
+    match form {
+        Form::New => Op::New { var },
+        Form::Drop => Op::Drop { var },
+        Form::Link => Op::Link { var, k, target },
+        Form::Fetch => Op::Fetch {
+            into: var,
+            var: other,
+            k,
+        },
+        Form::SetG => Op::SetG { g, target },
+        Form::GetG => Op::GetG { into: var, g },
+        Form::Init => Op::Init { var, f, tag, value },
+        Form::Load => Op::Load { var, f, tag },
+        Form::Store => Op::Store { var, f, tag, value },
+        Form::Swap => Op::Swap { var, f, tag, value },
+        Form::Name => Op::Name { var, f },
+        Form::Forge => Op::Forge { var, f, word },
+        Form::Raw => Op::Raw { word, tag },
+        Form::RawSet => Op::RawSet { word, tag, value },
+        Form::TNew => Op::TNew { var, tag, value },
+        Form::TPub => Op::TPub { var },
+        Form::TLoad => Op::TLoad { var, tag },
+        Form::TRaw => Op::TRaw { word, tag },
+        Form::Share => Op::Share {
+            from: var,
+            to: other,
+        },
+    }
+}
+
+/// Before any place is read (`nothing_said`).
+fn nothing() -> Said
+    ensures value { result ≡ nothing_said }
+    ensures valid { IsSaid result }
+{
+    Said {
+        mutator: 0,
+        variable: 0,
+        other: 0,
+        target: None,
+        reference: 0,
+        field: 0,
+        global: 0,
+        tag: 15,
+        word: 0,
+        value: 0,
+    }
+}
+
+/// A target (`target_of`): a variable, or `-` for none.
+fn target(word: &[u8]) -> Option<Option<u32>>
+    ensures value { result ≡ target_of word.now }
+    ensures valid { IfSome result IsTarget }
+{
+    match word {
+        b"-" => Some(None),
+        _ => Some(Some(variable(word)?)),
+    }
+}
+
+/// A small number below a bound.
+fn ranged_number(bound: u32, word: &[u8]) -> Result<u32, Fault>
+    ensures value { result ≡ number_below bound (small_of word.now) }
+    ensures below { IfOk result (λ n. n < bound) }
+{
+    let number = small(word).ok_or(Fault::BadNumber)?;
+    if number < u64::from(bound) {
+        Ok(number as u32)
+    } else {
+        Err(Fault::OutOfRange)
+    }
+}
+
+/// What a word says at a place, beside what the other places say (`read_at`).
+fn read_at(place: Place, word: &[u8], said: Said) -> Result<Said, Fault>
+    requires { IsSaid said }
+    ensures value { result ≡ read_at place word.now said }
+    ensures valid { IfOk result IsSaid }
+    ensures same { IfOk result (λ s. s.mutator ≡ said.mutator) }
+{
+    match place {
+        Place::Variable => Ok(Said {
+            variable: variable(word).ok_or(Fault::BadLine)?,
+            ..said
+        }),
+        Place::Other => Ok(Said {
+            other: variable(word).ok_or(Fault::BadLine)?,
+            ..said
+        }),
+        Place::Target => Ok(Said {
+            target: target(word).ok_or(Fault::BadLine)?,
+            ..said
+        }),
+        Place::Reference => Ok(Said {
+            reference: ranged_number(4, word)?,
+            ..said
+        }),
+        Place::Field => Ok(Said {
+            field: ranged_number(2, word)?,
+            ..said
+        }),
+        Place::Global => Ok(Said {
+            global: ranged_number(16, word)?,
+            ..said
+        }),
+        Place::Tag => Ok(Said {
+            tag: tag(word).ok_or(Fault::BadTag)?,
+            ..said
+        }),
+        Place::Word => Ok(Said {
+            word: index_word(word).ok_or(Fault::BadNumber)?,
+            ..said
+        }),
+        Place::Value => Ok(Said {
+            value: value(word).ok_or(Fault::BadNumber)?,
+            ..said
+        }),
+    }
+}
+
+/// Of a place's fault and the one of the places behind it, where they have one, the one that is tested first
+/// (`first_of`).
+fn first_fault(fault: Fault, behind: Result<Said, Fault>) -> Fault
+    ensures { result ≡ first_of fault behind }
+{
+    match behind {
+        Ok(_) => fault,
+        Err(other) => {
+            if fault.order() <= other.order() {
+                fault
+            } else {
+                other
+            }
+        }
+    }
+}
+
+/// What the words of a line say at these places (`read_places`).
+fn read_all(places: &[Place], rest: Option<&[u8]>, said: Said) -> Result<Said, Fault>
+    requires { IsSaid said }
+    ensures value { result ≡ read_places places.now (option_map_or (λ r. words r.now) rest.entry []) said }
+    ensures valid { IfOk result IsSaid }
+    ensures same { IfOk result (λ s. s.mutator ≡ said.mutator) }
+{
+    match places {
+        [] => match rest {
+            None => Ok(said),
+            Some(_) => Err(Fault::BadLine),
+        },
+        [place, more @ ..] => {
+            let Some(text) = rest else {
+                return Err(Fault::BadLine);
+            };
+            let (word, behind) = next_word(text);
+            match read_at(*place, word, said) {
+                Ok(next) => read_all(more, behind, next),
+                Err(fault) => Err(first_fault(fault, read_all(more, behind, said))),
+            }
+        }
+    }
+}
+
+/// The number of a mutator below `mutators` (`read_mutator`).
+fn read_number(mutators: u32, word: &[u8], said: Said) -> Result<Said, Fault>
+    requires { IsSaid said }
+    ensures value { result ≡ read_mutator mutators word.now said }
+    ensures valid { IfOk result (λ s. IsSaid s × (s.mutator < mutators)) }
+{
+    Ok(Said {
+        mutator: ranged_number(mutators, word)?,
+        ..said
+    })
+}
+
+/// Reads the mutator's number and the places of a form in one.
+pub fn read_said(
+    mutators: u32,
+    mutator: &[u8],
+    form: Form,
+    rest: Option<&[u8]>,
+) -> Result<Said, Fault>
+    ensures value { result ≡ read_on (read_mutator mutators mutator.now nothing_said) nothing_said
+        (read_places (places_of form) (option_map_or (λ r. words r.now) rest.entry [])) }
+    ensures valid { IfOk result (λ s. IsSaid s × (s.mutator < mutators)) }
+{
+    let nothing = nothing();
+    match read_number(mutators, mutator, nothing) {
+        Ok(said) => read_all(places(form), rest, said),
+        Err(fault) => Err(first_fault(fault, read_all(places(form), rest, nothing))),
+    }
+}
