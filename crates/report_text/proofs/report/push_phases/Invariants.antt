@@ -1,0 +1,9 @@
+-- Behind the first phases stand their lines.
+use Rattle.std.proofs.Common.{◌≡◌, ◌++◌, string_bytes, take}
+use Rattle.std.specs.List.{flat_map}
+use Rattle.report_text.specs.Report.{phase_text}
+use Rattle.report_text.proofs.report.push_phases.Given as goal
+
+abbrev pub invariant-loop-phase : goal.invariant-loop-phase
+invariant-loop-phase l =
+    string_bytes l.text ≡ string_bytes l.initial.text ++ flat_map (phase_text l.outcome) (take l.phase-index l.phase-items)
