@@ -1,0 +1,9 @@
+pub mod EntryWords
+pub mod EngineReads
+pub mod EngineInit
+pub mod EngineOpening
+pub mod EngineTotals
+pub mod RunCalls
+pub mod RunBelongs
+pub mod EngineStores
+pub mod OnePhase
