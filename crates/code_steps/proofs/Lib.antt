@@ -1,0 +1,17 @@
+pub mod Totals
+pub mod Prefixes
+pub mod Weights
+pub mod Frame
+pub mod Steps
+pub mod LoadKeeps
+pub mod Words
+pub mod ClaimKeeps
+pub mod NumberKeeps
+pub mod ReleaseKeeps
+pub mod Places
+pub mod Whole
+pub mod SplitKeeps
+pub mod JoinKeeps
+pub mod OpenKeeps
+pub mod Closing
+pub mod OneCall
