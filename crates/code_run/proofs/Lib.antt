@@ -1,0 +1,5 @@
+pub mod Sums
+pub mod Calls
+pub mod Finish
+pub mod Fresh
+pub mod OneWord

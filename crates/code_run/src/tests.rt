@@ -1,0 +1,103 @@
+ghost use Rattle.std.specs.Prelude.{◌<◌, length};
+ghost use Rattle.code_steps.specs.Seats.{view, IsOf};
+
+use crate::{CodeStatus, code_main, open_table, run_codes};
+use code_steps::{CodeRead, CodeSeat, CodeTable, read, write};
+use ept_io::MemorySink;
+use std::test::Fail;
+use std::thread::join;
+
+/// The room of a sink that takes each line of these tests.
+const ROOM: usize = 64;
+
+#[test]
+fn a_thousand_calls_of_each(rt: HostRuntime) -> Result<(), Fail> {
+    let (table, mut seat) = open_table(rt.alloc())?;
+    let report = run_codes(&rt, &table, &mut seat, 1000);
+    assert!(rt;
+        report.done >= 1,
+        "a write is busy only where another has claimed"
+    );
+    assert!(rt; report.done + report.busy == 2000);
+    assert!(rt; report.pairs + report.again == 2000);
+    assert_eq!(rt; report.bad, 0);
+    Ok(())
+}
+
+// Whether a reader met a writer within so many reads: it was told to read again, or saw a pair that
+// is not the opening one.
+fn watch(table: &CodeTable, mut seat: CodeSeat, reads: u32) -> bool
+    requires caller { IsOf table.now seat }
+    requires entries { 0 < length (view seat).seen }
+{
+    for _ in 0..reads {
+        match read(table, &mut seat, 0) {
+            CodeRead::Pair { seq: 0, .. } => {}
+            _ => return true,
+        }
+    }
+    false
+}
+
+#[test]
+fn readers_see_writers_at_work(rt: HostRuntime) -> Result<(), Fail> {
+    let (table, mut seat) = open_table(rt.alloc())?;
+    let other = seat.split(&table);
+    let shared = &table;
+    let (seen, _) = join(
+        &rt,
+        || watch(shared, other, u32::MAX),
+        || write(shared, &mut seat, 0, 1, (1 << 32) + 1),
+    );
+    assert!(rt; seen, "the threads never met");
+    Ok(())
+}
+
+#[test]
+fn words_and_lines(rt: HostRuntime) -> Result<(), Fail> {
+    for (words, fail_at, status, line) in [
+        (
+            ["3"].as_slice(),
+            [].as_slice(),
+            CodeStatus::Ok,
+            "code calls=12 bad=0\n",
+        ),
+        (
+            ["1000"].as_slice(),
+            [].as_slice(),
+            CodeStatus::Ok,
+            "code calls=4000 bad=0\n",
+        ),
+        (
+            ["1"].as_slice(),
+            [2].as_slice(),
+            CodeStatus::WriteFault,
+            "code calls=4 bad",
+        ),
+        ([].as_slice(), [].as_slice(), CodeStatus::Usage, ""),
+        (["0"].as_slice(), [].as_slice(), CodeStatus::Usage, ""),
+        (["1001"].as_slice(), [].as_slice(), CodeStatus::Usage, ""),
+        (["01"].as_slice(), [].as_slice(), CodeStatus::Usage, ""),
+        (["+1"].as_slice(), [].as_slice(), CodeStatus::Usage, ""),
+        (["1", "1"].as_slice(), [].as_slice(), CodeStatus::Usage, ""),
+    ] {
+        let mut args = Vec::new(rt.alloc());
+        for word in words {
+            args.push(String::from_str(rt.alloc(), word)?)?;
+        }
+        let fail_at = Vec::from_slice(rt.alloc(), fail_at)?;
+        let mut sink = MemorySink::new(rt.alloc(), ROOM, 16, fail_at)?;
+        let (table, mut seat) = open_table(rt.alloc())?;
+        let answer = code_main(
+            &rt,
+            rt.alloc(),
+            args.as_slice(),
+            &mut sink,
+            &table,
+            &mut seat,
+        );
+        assert_eq!(rt; answer, status);
+        assert_eq!(rt; sink.bytes(), line.as_bytes());
+    }
+    Ok(())
+}
