@@ -7,9 +7,13 @@ use Rattle.plain_table.specs.declared.events.Act.{Act}
 use Rattle.plain_table.specs.declared.events.Act.TheVariants.{New, Drop, Get, Link, Take, Below, Abort, Put, Bind, Name, Look, Set, Swap, Forge, Publish, Mark, Evac, Scan, Start, Finish}
 use Rattle.plain_table.specs.declared.events.Event.{Event}
 use Rattle.plain_table.specs.declared.events.Space.{Space}
+use Rattle.plain_table.specs.declared.events.Space.TheVariants.{External}
+use Rattle.plain_table.specs.declared.events.Spot.{Spot}
+use Rattle.plain_table.specs.declared.events.Spot.TheVariants.{Global, Ref}
+use Rattle.plain_table.specs.Cycle.{Cycle}
 use Rattle.plain_table.specs.Table.{Table, opening, least_free}
 use Rattle.plain_table.specs.declared.scripts.Limits.{Limits}
-use Rattle.plain_table.specs.Rows.{row, with_object, with_taken, with_bound, with_unbound}
+use Rattle.plain_table.specs.Rows.{row, free_below, object_in, with_object, with_taken, with_bound, with_unbound, with_linked, finished_in}
 use Rattle.plain_table.specs.History.{IsLegalHistory, next}
 use Rattle.plain_table.specs.Kept.{Kept, shown}
 use Rattle.plain_table.specs.Steps.{CanStep}
@@ -24,6 +28,16 @@ taken : (s : Table) (b : ℕ) (p : Space) (free : Option ℕ) → (with_taken s 
 taken s b p None = omega arith
 taken s b p (Some i) = omega arith
 
+-- a link is no put, at either place
+linked : (s : Table) (spot : Spot) (object : Option ℕ) → (with_linked s spot object).next ≤ s.next + 1
+linked s (Global g) object = omega arith
+linked s (Ref from k) object = omega arith
+
+-- a finish is no put, whether a cycle is under way or not
+ended : (s : Table) (cycle : Option Cycle) → (finished_in s cycle).next ≤ s.next + 1
+ended s None = omega arith
+ended s (Some c) = omega arith
+
 -- an event is one put at the most
 one_put : (s : Table) (b : ℕ) (act : Act) → (row s b act).next.next ≤ s.next + 1
 one_put s b (New var) = either (nat_lt s.count s.sizes.objects) s (with_object s b var) s (omega arith) (omega arith)
@@ -37,15 +51,15 @@ one_put s b (Swap word tag value) = omega arith
 one_put s b (Forge number word) = omega arith
 one_put s b (Drop var) = omega arith
 one_put s b (Get var spot) = omega arith
-one_put s b (Link spot var) = omega arith
-one_put s b (Below start) = omega arith
+one_put s b (Link spot var) = linked s spot (object_in s b var)
+one_put s b (Below start) = taken s b External (free_below s start)
 one_put s b Abort = omega arith
 one_put s b (Publish i) = omega arith
 one_put s b (Mark p i) = omega arith
 one_put s b (Evac i f) = omega arith
 one_put s b (Scan o) = omega arith
 one_put s b (Start policy) = omega arith
-one_put s b Finish = omega arith
+one_put s b Finish = ended s s.cycle
 
 -- so the ids given stay at most the events done
 few_more : (new behind old i : ℕ) → new ≡ behind → behind ≤ old + 1 → old ≤ i → new ≤ i + 1

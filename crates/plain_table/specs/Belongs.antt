@@ -1,63 +1,83 @@
 -- What it is for an outcome to belong to a script by a history: the history is legal from the opening and has one part
 -- a phase, in which the events of each mutator are the shapes of its calls, each once and in its order, with the
--- replies of the outcome; and the totals of the outcome are those of the table behind it.
-use Rattle.std.specs.Prelude.{◌≡◌, ℕ, zero, suc, ◌+◌, ◌^◌, ◌%◌, ◌<◌, ◌==◌, Bool, true, false, if◌then◌else◌, List, [], ◌∷◌, ◌++◌, length, Option, Some, None, is_some, slice_index_or}
-use Rattle.std.specs.List.{All, filter, count_by}
+-- replies of the outcome, those of each marker are scans, and those of the meet come last; and the totals of the
+-- outcome are those of the table behind it.
+use Rattle.std.specs.Prelude.{◌≡◌, ◌⊎◌, ℕ, zero, suc, ◌+◌, ◌^◌, ◌%◌, ◌<◌, ◌≤◌, ◌==◌, Bool, true, false, List, [], ◌∷◌, ◌++◌, length, Option, slice_index_or, IsTrue}
+use Rattle.std.specs.List.{All, Any, filter, count_by}
 use Rattle.plain_table.specs.declared.scripts.Limits.{Limits}
 use Rattle.plain_table.specs.declared.scripts.Meet.{Meet}
-use Rattle.plain_table.specs.declared.scripts.Meet.TheVariants.{End}
+use Rattle.plain_table.specs.declared.scripts.Meet.TheVariants.{Start}
 use Rattle.plain_table.specs.declared.scripts.Phase.{Phase}
 use Rattle.plain_table.specs.declared.scripts.Script.{Script}
-use Rattle.plain_table.specs.declared.reports.MeetReport.{MeetReport}
-use Rattle.plain_table.specs.declared.reports.MeetReport.TheVariants.{Ended}
 use Rattle.plain_table.specs.declared.reports.PhaseReport.{PhaseReport}
 use Rattle.plain_table.specs.declared.reports.Outcome.{Outcome}
 use Rattle.plain_table.specs.declared.events.Act.{Act}
-use Rattle.plain_table.specs.declared.events.Act.TheVariants.{Put}
+use Rattle.plain_table.specs.declared.events.Act.TheVariants.{Put, Scan}
 use Rattle.plain_table.specs.declared.events.Cell.{Cell}
 use Rattle.plain_table.specs.declared.events.Event.{Event}
 use Rattle.plain_table.specs.declared.events.Space.TheVariants.{External, Trusted}
+use Rattle.plain_table.specs.Reachable.{IsRoot}
 use Rattle.plain_table.specs.Table.{Table, opening, limit_of}
 use Rattle.plain_table.specs.Rows.{value_at}
 use Rattle.plain_table.specs.History.{IsLegalHistory, after}
 use Rattle.plain_table.specs.Shapes.{MakesCalls}
+use Rattle.plain_table.specs.Scans.{Scans, Rest, IsReadBeside}
+use Rattle.plain_table.specs.Sweeps.{MeetBelongs, cells_in, linked_behind}
+
+-- the part of a history that is one phase: what happened beside each other, and then what happened at its meet
+pub record Part : Type 0 where
+  pub beside : List Event
+  pub meet : List Event
+
+abbrev pub events_of : Part → List Event
+events_of part = part.beside ++ part.meet
 
 -- the events of one number, in their order
 abbrev pub events_by : ℕ → List Event → List Event
 events_by b events = filter (λ e. e.by == b) events
 
--- the report of a meet, by its kind; the other meets are not built yet
-abbrev pub IsMeetReport : Meet → MeetReport → Type 0
-IsMeetReport End Ended = Unit {0}
-IsMeetReport _ _ = ⊥
+-- the numbers of markers begin at 8
+abbrev pub IsMarker : Limits → ℕ → Type 0
+IsMarker limits b = (8 ≤ b) × (b < 8 + limits.markers)
 
--- a part of the history and a report are those of a phase that begins at the table s
-pub record PhaseBelongs (limits : Limits) (s : Table) (phase : Phase) (part : List Event) (report : PhaseReport) : Type 0 where
+-- some marker scanned the object
+abbrev pub IsScannedIn : Limits → List Event → ℕ → Type 0
+IsScannedIn limits events o = Any (λ (e : Event). IsMarker limits e.by × (e.act ≡ Scan o)) events
+
+-- a part of the history and a report are those of a phase that begins at the table s. `begins` tells that its meet
+-- before was the start of a cycle, and `linked` what was linked since the last one
+pub record PhaseBelongs (limits : Limits) (begins : Bool) (linked : List ℕ) (s : Table) (phase : Phase) (part : Part) (report : PhaseReport) : Type 0 where
   -- the events of each mutator are its calls, with the replies that are reported
   pub calls : (b : ℕ) → b < limits.mutators →
-      MakesCalls b (s.vars b) (slice_index_or phase.calls b []) (slice_index_or report.replies b []) (events_by b part)
-  -- no other number makes an event
-  pub numbers : All (λ (e : Event). e.by < limits.mutators) part
+      MakesCalls b s.cycle (s.vars b) (s.ticket b) (slice_index_or phase.calls b []) (slice_index_or report.replies b [])
+      (events_by b part.beside)
+  -- the events of each marker are scans, of any objects
+  pub scans : (b : ℕ) → IsMarker limits b → Scans (λ t o. Unit {0}) IsReadBeside b Rest s part.beside
+  -- no other number makes an event beside them
+  pub numbers : All (λ (e : Event). (e.by < limits.mutators) ⊎ IsMarker limits e.by) part.beside
+  -- in the first phase of a cycle markers scan each root
+  pub roots : IsTrue begins → 1 ≤ limits.markers → (o : ℕ) → IsRoot s.globals s.vars o → IsScannedIn limits part.beside o
   pub lists : length report.replies ≡ limits.mutators
-  pub meet : IsMeetReport phase.meet report.meet
+  pub meet : MeetBelongs (linked_behind s linked part.beside) (after s part.beside) phase.meet part.meet report.meet
+
+abbrev pub is_start : Meet → Bool
+is_start (Start policy) = true
+is_start _ = false
 
 -- the same of each phase in turn, the next one beginning where the last part ended
-abbrev pub PhasesBelong : Limits → Table → List Phase → List (List Event) → List PhaseReport → Type 0
-PhasesBelong limits s [] [] [] = Unit {0}
-PhasesBelong limits s (phase ∷ phases) (part ∷ parts) (report ∷ reports) =
-    PhaseBelongs limits s phase part report × PhasesBelong limits (after s part) phases parts reports
-PhasesBelong limits s _ _ _ = ⊥
+abbrev pub PhasesBelong : Limits → Bool → List ℕ → Table → List Phase → List Part → List PhaseReport → Type 0
+PhasesBelong limits begins linked s [] [] [] = Unit {0}
+PhasesBelong limits begins linked s (phase ∷ phases) (part ∷ parts) (report ∷ reports) =
+    PhaseBelongs limits begins linked s phase part report
+    × PhasesBelong limits (is_start phase.meet) (linked_behind s linked (events_of part)) (after s (events_of part)) phases parts reports
+PhasesBelong limits begins linked s _ _ _ = ⊥
 
 -- the parts, one after the other
-abbrev pub whole : List (List Event) → List Event
+abbrev pub whole : List Part → List Event
 whole [] = []
-whole (part ∷ parts) = part ++ whole parts
+whole (part ∷ parts) = events_of part ++ whole parts
 
--- how many cells stand below an index, and the sum of their values
-abbrev pub cells_below : (ℕ → Option Cell) → ℕ → ℕ
-cells_below cells zero = 0
-cells_below cells (suc n) = cells_below cells n + (if is_some (cells n) then 1 else 0)
-
+-- the sum of the values of cells below an index
 abbrev pub values_below : (ℕ → Option Cell) → ℕ → ℕ
 values_below cells zero = 0
 values_below cells (suc n) = values_below cells n + value_at (cells n)
@@ -68,13 +88,13 @@ is_external_put _ = false
 
 -- the totals of an outcome are those of the last table and of the whole history
 pub record HasTotals (s : Table) (events : List Event) (outcome : Outcome) : Type 0 where
-  pub live : outcome.live ≡ cells_below (s.cells External) (limit_of s External)
-  pub trusted : outcome.trusted ≡ cells_below (s.cells Trusted) (limit_of s Trusted)
+  pub live : outcome.live ≡ cells_in s External
+  pub trusted : outcome.trusted ≡ cells_in s Trusted
   pub objects : outcome.objects ≡ s.count
   pub sum : outcome.sum ≡ values_below (s.cells External) (limit_of s External) % 2 ^ 48
   pub puts : outcome.puts ≡ count_by (λ (e : Event). is_external_put e.act) events
 
-pub record Belongs (script : Script) (parts : List (List Event)) (outcome : Outcome) : Type 0 where
+pub record Belongs (script : Script) (parts : List Part) (outcome : Outcome) : Type 0 where
   pub legal : IsLegalHistory (opening script.limits) (whole parts)
-  pub phases : PhasesBelong script.limits (opening script.limits) script.phases parts outcome.phases
+  pub phases : PhasesBelong script.limits false [] (opening script.limits) script.phases parts outcome.phases
   pub totals : HasTotals (after (opening script.limits) (whole parts)) (whole parts) outcome

@@ -1,24 +1,20 @@
 -- A collection cycle under way: its evacuation area, its marks and evacuation entries, the objects born and scanned
 -- since its start, and the words that stood in fields since. What was reachable at its start is told by a copy of the
 -- references, globals, variables and words of that moment.
-use Rattle.std.specs.Prelude.{◌≡◌, ◌≢◌, ◌⊎◌, ℕ, Bool, true, Option, Some, None, IsTrue}
+use Rattle.std.specs.Prelude.{◌≡◌, ◌≢◌, ◌⊎◌, ℕ, Bool, true, false, nat_le, if◌then◌else◌, Option, Some, None, IsTrue}
 use Rattle.plain_table.specs.declared.events.Space.{Space}
 use Rattle.plain_table.specs.declared.events.Field.{Field}
 use Rattle.plain_table.specs.Places.{object_of, put_at, put_entry, put_field}
-
--- reachable: held by a global or by a variable of any mutator, or by a reference of a reachable object
-pub data Reaches (refs : ℕ → ℕ → Option ℕ) (globals : ℕ → Option ℕ) (vars : ℕ → ℕ → Option ℕ) : ℕ → Type 0 where
-  By_global : (g o : ℕ) → globals g ≡ Some o → Reaches refs globals vars o
-  By_variable : (b v o : ℕ) → vars b v ≡ Some o → Reaches refs globals vars o
-  By_reference : (o k q : ℕ) → Reaches refs globals vars o → refs o k ≡ Some q → Reaches refs globals vars q
+use Rattle.plain_table.specs.Reachable.{Reaches}
 
 pub record Cycle : Type 0 where
   -- the first index of the evacuation area, where there is one, and whether the compaction was aborted
   pub start : Option ℕ
   pub aborted : Bool
   pub marks : Space → ℕ → Bool
-  -- the external field whose cell is to move to an index
+  -- the evacuation entries: the external field whose cell is to move to an index; and the fields that have got one
   pub evac : ℕ → Option ℕ
+  pub visited : ℕ → Bool
   pub born : ℕ → Bool
   pub scans : ℕ → Bool
   -- the words that came into fields since the start
@@ -37,7 +33,25 @@ IsOld c o = Reaches c.refs c.globals c.vars o
 abbrev pub IsTouched : Cycle → Field → ℕ → Type 0
 IsTouched c f w = (IsOld c (object_of f) × (c.words f ≡ w) × (w ≢ 0)) ⊎ IsTrue (c.came f w)
 
--- what an event leaves of the cycle, where there is one: an index marked, an object born, a word come into a field
+-- the index is at or above a start
+abbrev pub is_from : Option ℕ → ℕ → Bool
+is_from None i = false
+is_from (Some start) i = nat_le start i
+
+-- the start of the evacuation area, where a cycle with one is under way, and whether the index lies in it
+abbrev pub start_in : Option Cycle → Option ℕ
+start_in None = None
+start_in (Some c) = c.start
+
+abbrev pub is_in_area : Option Cycle → ℕ → Bool
+is_in_area cycle i = is_from (start_in cycle) i
+
+-- where the cells that move stand: from the start of the area on, unless the compaction was aborted
+abbrev pub moves_from : Cycle → Option ℕ
+moves_from c = if c.aborted then None else c.start
+
+-- what an event leaves of the cycle, where there is one: an index marked, an object born or scanned, a word come into
+-- a field, an evacuation entry of a field, and the compaction aborted
 abbrev pub marked_in : Option Cycle → Space → ℕ → Option Cycle
 marked_in None p i = None
 marked_in (Some c) p i = Some (record c { marks = put_entry c.marks p i true })
@@ -46,6 +60,18 @@ abbrev pub born_in : Option Cycle → ℕ → Option Cycle
 born_in None o = None
 born_in (Some c) o = Some (record c { born = put_at c.born o true })
 
+abbrev pub scanned_in : Option Cycle → ℕ → Option Cycle
+scanned_in None o = None
+scanned_in (Some c) o = Some (record c { scans = put_at c.scans o true })
+
 abbrev pub touched_in : Option Cycle → Field → ℕ → Option Cycle
 touched_in None f w = None
 touched_in (Some c) f w = Some (record c { came = put_field c.came f (put_at (c.came f) w true) })
+
+abbrev pub evacuated_in : Option Cycle → ℕ → ℕ → Option Cycle
+evacuated_in None i number = None
+evacuated_in (Some c) i number = Some (record c { evac = put_at c.evac i (Some number); visited = put_at c.visited number true })
+
+abbrev pub aborted_in : Option Cycle → Option Cycle
+aborted_in None = None
+aborted_in (Some c) = Some (record c { aborted = true })

@@ -1,4 +1,6 @@
--- Lists of entries as maps and sets: what stands at a number or at a pair of numbers.
+-- Lists of entries as maps and sets: what stands at a number or at a pair of numbers. The plain program keeps its maps
+-- as such lists in the order of their keys, and each definition of the table is a function, so these are the functions
+-- that the lists stand for.
 use Rattle.std.specs.Prelude.{ℕ, Bool, List, Option, unwrap_or}
 use Rattle.std.specs.declared.cmp.Ordering.{Ordering}
 use Rattle.std.specs.Ordering.{nat_cmp, ordering_then}

@@ -1,4 +1,6 @@
--- Legal histories: each event is legal in the table that the events before it left, and has the reply of its row.
+-- Legal histories: each event is legal in the table that the events before it left, and has the reply of its row. A
+-- history is a list of events in the order in which they took effect, and the table behind it follows from the table
+-- that it begins at.
 use Rattle.std.specs.Prelude.{◌≡◌, List, [], ◌∷◌}
 use Rattle.plain_table.specs.declared.events.Event.{Event}
 use Rattle.plain_table.specs.Table.{Table}

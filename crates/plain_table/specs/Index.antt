@@ -1,4 +1,6 @@
--- Index words: the upper 16 bits of a word of 32 bits name an entry of a space, and the lower 16 bits are ignored.
+-- Index words: the upper 16 bits of a word of 32 bits name an entry of a space, and the lower 16 bits are ignored. A
+-- field of an object holds such a word and never an address. The word of an index has its lower 16 bits zero, and index 0
+-- is the null entry.
 use Rattle.std.specs.Prelude.{ℕ, ◌*◌, ◌/◌}
 
 -- the index that a word names

@@ -1,4 +1,6 @@
--- The limits that a table can have: the segments of each space hold at most 65,536 entries.
+-- The limits that a table can have: the entries of a segment are 4, 16, 64 or 256, the segments of each space hold at
+-- most 65,536 entries, so that an index word can name each of them, and objects, mutators and markers are few. No event
+-- changes them.
 use Rattle.std.specs.Prelude.{◌≡◌, ◌⊎◌, ℕ, ◌*◌, ◌≤◌}
 use Rattle.plain_table.specs.declared.scripts.Limits.{Limits}
 

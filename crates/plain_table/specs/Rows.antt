@@ -1,20 +1,24 @@
 -- The table of events: one equation an act, with its three columns. `allowed` says where the event is legal, `reply`
--- what it answers, and `next` the table behind it. What `next` does not name stays as it was.
+-- what it answers, and `next` the table behind it. What `next` does not name stays as it was. Before the rows stand the
+-- words that they are said in.
 use Rattle.std.specs.Prelude.{◌≡◌, ◌⊎◌, ℕ, ◌+◌, ◌^◌, ◌<◌, ◌≤◌, ◌==◌, nat_lt, true, false, ◌&&◌, if◌then◌else◌, Option, Some, None, IsTrue, IsSome, IsSomeAnd, IfSome, count_ones}
 use Rattle.std.specs.Option.{option_map, option_map_or}
 use Rattle.plain_table.specs.declared.events.Act.{Act}
-use Rattle.plain_table.specs.declared.events.Act.TheVariants.{New, Take, Put, Bind, Name, Look, Set, Swap, Forge}
+use Rattle.plain_table.specs.declared.events.Act.TheVariants.{New, Drop, Get, Link, Take, Below, Abort, Put, Bind, Name, Look, Set, Swap, Forge, Publish, Mark, Evac, Scan, Start, Finish}
 use Rattle.plain_table.specs.declared.events.Cell.{Cell}
 use Rattle.plain_table.specs.declared.events.Space.{Space}
 use Rattle.plain_table.specs.declared.events.Space.TheVariants.{External, Trusted}
 use Rattle.plain_table.specs.declared.events.Field.{Field}
 use Rattle.plain_table.specs.declared.events.Field.TheVariants as field
+use Rattle.plain_table.specs.declared.events.Spot.{Spot}
+use Rattle.plain_table.specs.declared.events.Spot.TheVariants.{Global, Ref}
 use Rattle.plain_table.specs.declared.reports.Reply.{Reply}
 use Rattle.plain_table.specs.declared.reports.Reply.TheVariants as reply
 use Rattle.plain_table.specs.Index.{index_of}
 use Rattle.plain_table.specs.Places.{space_of, object_of, same_space, put_at, put_pair, put_entry, put_field, put_claim}
-use Rattle.plain_table.specs.Cycle.{marked_in, born_in, touched_in}
+use Rattle.plain_table.specs.Cycle.{Cycle, IsOld, IsTouched, is_from, start_in, moves_from, marked_in, born_in, scanned_in, touched_in, evacuated_in, aborted_in}
 use Rattle.plain_table.specs.Table.{Table, least_free}
+use Rattle.plain_table.specs.Finish.{id_at, IsOwn, CanFinish, started, finished}
 
 -- a tag is a byte with exactly four set bits
 abbrev pub IsTag : ℕ → Type 0
@@ -23,6 +27,32 @@ IsTag tag = (tag < 256) × (count_ones tag ≡ 4)
 -- a mutator holds an object where one of its 16 variables does
 abbrev pub Holds : Table → ℕ → ℕ → Type 0
 Holds s b o = (v : ℕ) × (v < 16) × (s.vars b v ≡ Some o)
+
+-- a place that a number may read or link: a global, or a reference of an object that it holds; and what stands there
+abbrev pub IsSpotOf : Table → ℕ → Spot → Type 0
+IsSpotOf s b (Global g) = g < 16
+IsSpotOf s b (Ref object k) = Holds s b object × (k < 4)
+
+abbrev pub at_spot : Table → Spot → Option ℕ
+at_spot s (Global g) = s.globals g
+at_spot s (Ref object k) = s.refs object k
+
+-- a variable that holds an object, or none at all; and the object that is to be linked
+abbrev pub IsFull : Table → ℕ → Option ℕ → Type 0
+IsFull s b None = Unit {0}
+IsFull s b (Some var) = (var < 16) × IsSome (s.vars b var)
+
+abbrev pub object_in : Table → ℕ → Option ℕ → Option ℕ
+object_in s b None = None
+object_in s b (Some var) = s.vars b var
+
+-- the least free external index, where it is below a start
+abbrev pub only_below : ℕ → Option ℕ → Option ℕ
+only_below start None = None
+only_below start (Some i) = if nat_lt i start then Some i else None
+
+abbrev pub free_below : Table → ℕ → Option ℕ
+free_below s start = only_below start (least_free s External)
 
 -- what a look answers: null at index 0, the value of a shown cell with the tag, and else a fault
 abbrev pub seen_under : Option Cell → ℕ → Reply
@@ -58,6 +88,28 @@ pub record IsSharedBind (s : Table) (f : Field) (word : ℕ) : Type 0 where
   pub settled : (b : ℕ) → s.fresh b Trusted (index_of word) ≡ false
   pub marked : IfSome s.cycle (λ c. IsTrue (c.marks Trusted (index_of word)))
 
+-- a cycle is under way, and this holds of it
+abbrev pub InCycle : Table → (Cycle → Type 0) → Type 0
+InCycle s P = IsSomeAnd s.cycle P
+
+-- a word that stood in a field of the space since the start names the index
+abbrev pub IsNamed : Cycle → Space → ℕ → Type 0
+IsNamed c p i = (f : Field) × (w : ℕ) × (space_of f ≡ p) × (index_of w ≡ i) × IsTouched c f w
+
+-- a cell does not move from its index, or the field that names it has an evacuation entry
+abbrev pub IsPlaced : Cycle → Field → ℕ → Type 0
+IsPlaced c (field.External number) i = (is_from (moves_from c) i ≡ false) ⊎ IsTrue (c.visited number)
+IsPlaced c (field.Trusted number) i = Unit {0}
+
+-- a bound field is safe where its own cell stands at its word's index, marked, and will not move without the field
+abbrev pub IsSafe : Table → Cycle → Field → ℕ → Type 0
+IsSafe s c f id =
+    IsOwn s f id × IsTrue (c.marks (space_of f) (index_of (s.words f))) × IsPlaced c f (index_of (s.words f))
+
+-- each bound field of the object is safe
+abbrev pub AreSafe : Table → Cycle → ℕ → Type 0
+AreSafe s c o = (f : Field) (id : ℕ) → object_of f ≡ o → s.bound f ≡ Some id → IsSafe s c f id
+
 -- the next tables
 abbrev pub with_object : Table → ℕ → ℕ → Table
 with_object s b var = record s {
@@ -90,7 +142,7 @@ tickets_behind s b Trusted i = if s.fresh b Trusted i then put_at s.ticket b (So
 abbrev pub with_bound : Table → ℕ → Field → ℕ → Table
 with_bound s b f word = record s {
   words = put_field s.words f word;
-  bound = put_field s.bound f (option_map (λ (c : Cell). c.id) (s.cells (space_of f) (index_of word)));
+  bound = put_field s.bound f (id_at s (space_of f) (index_of word));
   fresh = put_claim s.fresh b (space_of f) (index_of word) false;
   ticket = tickets_behind s b (space_of f) (index_of word);
   cycle = touched_in s.cycle f word;
@@ -115,6 +167,28 @@ with_forged s number word = record s {
   cycle = touched_in s.cycle (field.External number) word;
 }
 
+abbrev pub with_linked : Table → Spot → Option ℕ → Table
+with_linked s (Global g) x = record s { globals = put_at s.globals g x }
+with_linked s (Ref object k) x = record s { refs = put_pair s.refs object k x }
+
+-- a published cell can be seen, and its ticket is given up
+abbrev pub with_published : Table → ℕ → ℕ → Table
+with_published s b i = record s {
+  cells = put_entry s.cells Trusted i (option_map (λ (c : Cell). record c { shown = true }) (s.cells Trusted i));
+  ticket = put_at s.ticket b None;
+  cycle = marked_in s.cycle Trusted i;
+}
+
+abbrev pub with_evacuation : Table → ℕ → ℕ → ℕ → Table
+with_evacuation s b i number = record s {
+  owed = put_claim s.owed b External i false;
+  cycle = evacuated_in s.cycle i number;
+}
+
+abbrev pub finished_in : Table → Option Cycle → Table
+finished_in s None = s
+finished_in s (Some c) = finished s c
+
 -- one row of the table of events
 pub record Row : Type 1 where
   pub allowed : Type 0
@@ -127,10 +201,35 @@ row s b (New var) = record {
   reply = if nat_lt s.count s.sizes.objects then reply.Obj s.count else reply.HeapFull;
   next = if nat_lt s.count s.sizes.objects then with_object s b var else s;
 }
+row s b (Drop var) = record {
+  allowed = (b < 8) × (var < 16);
+  reply = reply.Ok;
+  next = record s { vars = put_pair s.vars b var None };
+}
+row s b (Get var spot) = record {
+  allowed = (b < 8) × (var < 16) × IsSpotOf s b spot;
+  reply = option_map_or reply.Obj (at_spot s spot) reply.Nothing;
+  next = record s { vars = put_pair s.vars b var (at_spot s spot) };
+}
+row s b (Link spot var) = record {
+  allowed = IsSpotOf s b spot × IsFull s b var;
+  reply = reply.Ok;
+  next = with_linked s spot (object_in s b var);
+}
 row s b (Take p) = record {
   allowed = Unit {0};
   reply = option_map_or reply.Index (least_free s p) reply.Full;
   next = with_taken s b p (least_free s p);
+}
+row s b (Below start) = record {
+  allowed = start_in s.cycle ≡ Some start;
+  reply = option_map_or reply.Index (free_below s start) reply.NoRoom;
+  next = with_taken s b External (free_below s start);
+}
+row s b Abort = record {
+  allowed = IsSomeAnd (start_in s.cycle) (λ start. free_below s start ≡ None);
+  reply = reply.Ok;
+  next = record s { cycle = aborted_in s.cycle };
 }
 row s b (Put p i tag value) = record {
   allowed = IsTrue (s.owed b p i) × IsTag tag × (value < 2 ^ 48) × MayFill s p i;
@@ -167,5 +266,34 @@ row s b (Forge number word) = record {
   reply = reply.Ok;
   next = with_forged s number word;
 }
--- the other events are not built yet, and legal nowhere
-row s b _ = record { allowed = ⊥; reply = reply.Fault; next = s }
+row s b (Publish i) = record {
+  allowed = s.ticket b ≡ Some i;
+  reply = reply.Ok;
+  next = with_published s b i;
+}
+row s b (Mark p i) = record {
+  allowed = InCycle s (λ c. IsSome (s.cells p i) × IsNamed c p i);
+  reply = reply.Ok;
+  next = record s { cycle = marked_in s.cycle p i };
+}
+row s b (Evac i number) = record {
+  allowed = IsTrue (s.owed b External i) × IsSomeAnd (start_in s.cycle) (λ start. i < start)
+      × InCycle s (λ c. IsOld c (object_of (field.External number)));
+  reply = reply.Ok;
+  next = with_evacuation s b i number;
+}
+row s b (Scan o) = record {
+  allowed = InCycle s (λ c. IsOld c o × (c.scans o ≡ false) × AreSafe s c o);
+  reply = reply.Ok;
+  next = record s { cycle = scanned_in s.cycle o };
+}
+row s b (Start policy) = record {
+  allowed = (b ≡ 12) × (s.cycle ≡ None);
+  reply = reply.Ok;
+  next = started s policy;
+}
+row s b Finish = record {
+  allowed = (b ≡ 12) × InCycle s (CanFinish s);
+  reply = reply.Ok;
+  next = finished_in s s.cycle;
+}

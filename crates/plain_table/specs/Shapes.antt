@@ -1,18 +1,23 @@
--- The shape of a call: the events that a call of a mutator makes, in order, by its reply. The object of a variable is
--- the one that the mutator's own events left in it.
-use Rattle.std.specs.Prelude.{◌≡◌, ◌⊎◌, ℕ, ◌+◌, ◌*◌, List, [], ◌∷◌, ◌++◌, Option, Some, None, MatchOption}
+-- The shape of a call: the events that a call of a mutator makes, in order, by its reply. The object of a variable and
+-- the mutator's ticket are those that its own events left, and whether a cycle is under way does not change in a phase.
+-- A mutator's events are the shapes of its calls, each once.
+use Rattle.std.specs.Prelude.{◌≡◌, ◌≢◌, ◌⊎◌, ℕ, ◌+◌, ◌*◌, if◌then◌else◌, List, [], ◌∷◌, ◌++◌, Option, Some, None, MatchOption}
 use Rattle.plain_table.specs.declared.scripts.Op.{Op}
 use Rattle.plain_table.specs.declared.scripts.Op.TheVariants as op
 use Rattle.plain_table.specs.declared.events.Act.{Act}
-use Rattle.plain_table.specs.declared.events.Act.TheVariants.{New, Drop, Get, Take, Put, Bind, Name, Look, Set, Swap, Forge}
+use Rattle.plain_table.specs.declared.events.Act.TheVariants.{New, Drop, Get, Link, Take, Abort, Put, Bind, Name, Look, Set, Swap, Forge, Publish, Mark}
 use Rattle.plain_table.specs.declared.events.Event.{Event}
-use Rattle.plain_table.specs.declared.events.Space.TheVariants.{External}
+use Rattle.plain_table.specs.declared.events.Space.{Space}
+use Rattle.plain_table.specs.declared.events.Space.TheVariants.{External, Trusted}
 use Rattle.plain_table.specs.declared.events.Field.{Field}
 use Rattle.plain_table.specs.declared.events.Field.TheVariants as field
+use Rattle.plain_table.specs.declared.events.Spot.{Spot}
+use Rattle.plain_table.specs.declared.events.Spot.TheVariants.{Global, Ref}
 use Rattle.plain_table.specs.declared.reports.Reply.{Reply}
 use Rattle.plain_table.specs.declared.reports.Reply.TheVariants as reply
-use Rattle.plain_table.specs.Index.{word_of}
+use Rattle.plain_table.specs.Index.{index_of, word_of}
 use Rattle.plain_table.specs.Places.{put_at}
+use Rattle.plain_table.specs.Cycle.{Cycle, is_in_area}
 
 -- the objects that the 16 variables of one mutator hold
 abbrev pub Held : Type 0
@@ -29,18 +34,35 @@ external_field object f = field.External (2 * object + f)
 abbrev pub IsEmptyCall : Reply → List Event → Type 0
 IsEmptyCall said events = (said ≡ reply.Empty) × (events ≡ [])
 
+-- a call that uses the object of a variable, and one that uses that of a variable or of none
+abbrev pub WithObject : Held → ℕ → Reply → List Event → (ℕ → Type 0) → Type 0
+WithObject held var said events Shape = MatchOption (held var) (IsEmptyCall said events) Shape
+
+abbrev pub WithTarget : Held → Option ℕ → Reply → List Event → Type 0 → Type 0
+WithTarget held None said events Shape = Shape
+WithTarget held (Some var) said events Shape = WithObject held var said events (λ o. Shape)
+
+-- link: one event, of a global or of a reference
+abbrev pub IsLink : ℕ → Spot → Option ℕ → Reply → List Event → Type 0
+IsLink b spot target said events = events ≡ event b (Link spot target) said ∷ []
+
+-- in a cycle a put into the evacuation area comes behind an abort
+abbrev pub abort_before : ℕ → Option Cycle → ℕ → List Event
+abort_before b cycle i = if is_in_area cycle i then event b Abort reply.Ok ∷ [] else []
+
 -- init: take, put and bind, or one take that finds the space full
-abbrev pub IsInit : ℕ → Field → ℕ → ℕ → Reply → List Event → Type 0
-IsInit b f tag value said events =
+abbrev pub IsInit : ℕ → Option Cycle → Field → ℕ → ℕ → Reply → List Event → Type 0
+IsInit b cycle f tag value said events =
     ((said ≡ reply.Full) × (events ≡ event b (Take External) reply.Full ∷ []))
     ⊎ ((i : ℕ) × (events ≡ event b (Take External) (reply.Index i)
-    ∷ event b (Put External i tag value) reply.Ok
+    ∷ abort_before b cycle i
+    ++ event b (Put External i tag value) reply.Ok
     ∷ event b (Bind f (word_of i)) said ∷ []))
 
 -- load: the name of the field, and a look at the word that it answers
-abbrev pub IsLoad : ℕ → Field → ℕ → Reply → List Event → Type 0
-IsLoad b f tag said events =
-    (w : ℕ) × (events ≡ event b (Name f) (reply.Word w) ∷ event b (Look External w tag) said ∷ [])
+abbrev pub IsLoad : ℕ → Space → Field → ℕ → Reply → List Event → Type 0
+IsLoad b p f tag said events =
+    (w : ℕ) × (events ≡ event b (Name f) (reply.Word w) ∷ event b (Look p w tag) said ∷ [])
 
 -- a call that finds no cell under its tag answers null or a fault
 abbrev pub IsMiss : Reply → Type 0
@@ -67,26 +89,67 @@ IsRawSet b w tag value said events =
     (IsMiss said × (events ≡ event b (Look External w tag) said ∷ []))
     ⊎ ((old : ℕ) × (events ≡ event b (Look External w tag) (reply.Value old) ∷ event b (Set w tag value) said ∷ []))
 
--- one row a call; a call that is not built yet has no shape
-abbrev pub IsShape : ℕ → Held → Op → Reply → List Event → Type 0
-IsShape b held (op.New var) said events = events ≡ event b (New var) said ∷ []
-IsShape b held (op.Init var f tag value) said events =
-    MatchOption (held var) (IsEmptyCall said events) (λ o. IsInit b (external_field o f) tag value said events)
-IsShape b held (op.Load var f tag) said events =
-    MatchOption (held var) (IsEmptyCall said events) (λ o. IsLoad b (external_field o f) tag said events)
-IsShape b held (op.Name var f) said events =
-    MatchOption (held var) (IsEmptyCall said events)
-    (λ o. events ≡ event b (Name (external_field o f)) said ∷ [])
-IsShape b held (op.Store var f tag value) said events =
-    MatchOption (held var) (IsEmptyCall said events) (λ o. IsStore b (external_field o f) tag value said events)
-IsShape b held (op.Swap var f tag value) said events =
-    MatchOption (held var) (IsEmptyCall said events) (λ o. IsSwap b (external_field o f) tag value said events)
-IsShape b held (op.Forge var f word) said events =
-    MatchOption (held var) (IsEmptyCall said events)
-    (λ o. events ≡ event b (Forge (2 * o + f) word) said ∷ [])
-IsShape b held (op.Raw word tag) said events = events ≡ event b (Look External word tag) said ∷ []
-IsShape b held (op.RawSet word tag value) said events = IsRawSet b word tag value said events
-IsShape b held _ said events = ⊥
+-- tnew: pending where the mutator has a ticket already, and else take, put and bind, or one take that finds it full
+abbrev pub IsTNew : ℕ → Option ℕ → Field → ℕ → ℕ → Reply → List Event → Type 0
+IsTNew b (Some ticket) f tag value said events = (said ≡ reply.Pending) × (events ≡ [])
+IsTNew b None f tag value said events =
+    ((said ≡ reply.Full) × (events ≡ event b (Take Trusted) reply.Full ∷ []))
+    ⊎ ((i : ℕ) × (events ≡ event b (Take Trusted) (reply.Index i)
+    ∷ event b (Put Trusted i tag value) reply.Ok
+    ∷ event b (Bind f (word_of i)) said ∷ []))
+
+-- tpub: the name of the field, and where its word's index is the mutator's ticket, the publishing
+abbrev pub IsTPub : ℕ → Option ℕ → Field → Reply → List Event → Type 0
+IsTPub b ticket f said events =
+    (w : ℕ) × (((ticket ≢ Some (index_of w)) × (said ≡ reply.NotYours) × (events ≡ event b (Name f) (reply.Word w) ∷ []))
+    ⊎ ((ticket ≡ Some (index_of w)) × (events ≡ event b (Name f) (reply.Word w) ∷ event b (Publish (index_of w)) said ∷ [])))
+
+-- in a cycle the trusted cell that is to be shared is marked first
+abbrev pub mark_before : ℕ → Option Cycle → ℕ → List Event
+mark_before b None w = []
+mark_before b (Some c) w = event b (Mark Trusted (index_of w)) reply.Ok ∷ []
+
+-- share: the name of the one field, and where its word is not 0, the bind of the other
+abbrev pub IsShare : ℕ → Option Cycle → Field → Field → Reply → List Event → Type 0
+IsShare b cycle from to said events =
+    (w : ℕ) × (((w ≡ 0) × (said ≡ reply.Null) × (events ≡ event b (Name from) (reply.Word w) ∷ []))
+    ⊎ ((w ≢ 0) × (events ≡ event b (Name from) (reply.Word w) ∷ mark_before b cycle w ++ event b (Bind to w) said ∷ [])))
+
+-- one row a call
+abbrev pub IsShape : ℕ → Option Cycle → Held → Option ℕ → Op → Reply → List Event → Type 0
+IsShape b cycle held ticket (op.New var) said events = events ≡ event b (New var) said ∷ []
+IsShape b cycle held ticket (op.Drop var) said events = events ≡ event b (Drop var) said ∷ []
+IsShape b cycle held ticket (op.Link var k target) said events =
+    WithObject held var said events (λ o. WithTarget held target said events (IsLink b (Ref o k) target said events))
+IsShape b cycle held ticket (op.Fetch into var k) said events =
+    WithObject held var said events (λ o. events ≡ event b (Get into (Ref o k)) said ∷ [])
+IsShape b cycle held ticket (op.SetG g target) said events =
+    WithTarget held target said events (IsLink b (Global g) target said events)
+IsShape b cycle held ticket (op.GetG into g) said events = events ≡ event b (Get into (Global g)) said ∷ []
+IsShape b cycle held ticket (op.Init var f tag value) said events =
+    WithObject held var said events (λ o. IsInit b cycle (external_field o f) tag value said events)
+IsShape b cycle held ticket (op.Load var f tag) said events =
+    WithObject held var said events (λ o. IsLoad b External (external_field o f) tag said events)
+IsShape b cycle held ticket (op.Store var f tag value) said events =
+    WithObject held var said events (λ o. IsStore b (external_field o f) tag value said events)
+IsShape b cycle held ticket (op.Swap var f tag value) said events =
+    WithObject held var said events (λ o. IsSwap b (external_field o f) tag value said events)
+IsShape b cycle held ticket (op.Name var f) said events =
+    WithObject held var said events (λ o. events ≡ event b (Name (external_field o f)) said ∷ [])
+IsShape b cycle held ticket (op.Forge var f word) said events =
+    WithObject held var said events (λ o. events ≡ event b (Forge (2 * o + f) word) said ∷ [])
+IsShape b cycle held ticket (op.Raw word tag) said events = events ≡ event b (Look External word tag) said ∷ []
+IsShape b cycle held ticket (op.RawSet word tag value) said events = IsRawSet b word tag value said events
+IsShape b cycle held ticket (op.TNew var tag value) said events =
+    WithObject held var said events (λ o. IsTNew b ticket (field.Trusted o) tag value said events)
+IsShape b cycle held ticket (op.TPub var) said events =
+    WithObject held var said events (λ o. IsTPub b ticket (field.Trusted o) said events)
+IsShape b cycle held ticket (op.TLoad var tag) said events =
+    WithObject held var said events (λ o. IsLoad b Trusted (field.Trusted o) tag said events)
+IsShape b cycle held ticket (op.TRaw word tag) said events = events ≡ event b (Look Trusted word tag) said ∷ []
+IsShape b cycle held ticket (op.Share from to) said events =
+    WithObject held from said events (λ o. WithObject held to said events (λ q.
+    IsShare b cycle (field.Trusted o) (field.Trusted q) said events))
 
 -- the variables behind an event of their mutator, and behind several
 abbrev pub held_next : Held → Act → Reply → Held
@@ -100,11 +163,25 @@ abbrev pub held_after : Held → List Event → Held
 held_after held [] = held
 held_after held (e ∷ es) = held_after (held_next held e.act e.said) es
 
+-- the ticket behind a call: a new trusted cell that got its field is the mutator's to publish, once
+abbrev pub index_said : Reply → Option ℕ
+index_said (reply.Index i) = Some i
+index_said _ = None
+
+abbrev pub index_taken : List Event → Option ℕ
+index_taken [] = None
+index_taken (e ∷ es) = index_said e.said
+
+abbrev pub ticket_after : Option ℕ → Op → Reply → List Event → Option ℕ
+ticket_after ticket (op.TNew var tag value) reply.Ok events = index_taken events
+ticket_after ticket (op.TPub var) reply.Ok events = None
+ticket_after ticket _ _ _ = ticket
+
 -- the events of a mutator are the shapes of its calls, in order, each once, with these replies
-abbrev pub MakesCalls : ℕ → Held → List Op → List Reply → List Event → Type 0
-MakesCalls b held [] [] events = events ≡ []
-MakesCalls b held (call ∷ calls) (said ∷ replies) events =
+abbrev pub MakesCalls : ℕ → Option Cycle → Held → Option ℕ → List Op → List Reply → List Event → Type 0
+MakesCalls b cycle held ticket [] [] events = events ≡ []
+MakesCalls b cycle held ticket (call ∷ calls) (said ∷ replies) events =
     (own : List Event) × (others : List Event) × (events ≡ own ++ others)
-    × IsShape b held call said own
-    × MakesCalls b (held_after held own) calls replies others
-MakesCalls b held _ _ events = ⊥
+    × IsShape b cycle held ticket call said own
+    × MakesCalls b cycle (held_after held own) (ticket_after ticket call said own) calls replies others
+MakesCalls b cycle held ticket _ _ events = ⊥

@@ -1,4 +1,6 @@
--- The steps of a `State`: it makes an event that is legal, and takes no other one.
+-- The steps of a `State`: it makes an event exactly where that is legal in the table that it shows, and shows the next
+-- table then; it takes no other event. A state that is spent, for want of memory or of a further id, makes none any
+-- more.
 use Rattle.std.specs.Prelude.{◌≡◌, Bool, true, false}
 use Rattle.plain_table.specs.declared.events.Event.{Event}
 use Rattle.plain_table.specs.History.{IsLegal, next}

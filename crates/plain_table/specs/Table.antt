@@ -1,5 +1,6 @@
 -- The plain table: its sizes, its cells and used indexes, the words of fields, and the objects of references, globals
--- and variables. Each map is a total function, which answers None, false or 0 where nothing stands.
+-- and variables. Each map is a total function, which answers None, false or 0 where nothing stands. There is no word of
+-- an entry, no bit and no link.
 use Rattle.std.specs.Prelude.{ℕ, zero, suc, ◌+◌, ◌-◌, ◌*◌, ◌==◌, Bool, false, if◌then◌else◌, Option, Some, None}
 use Rattle.plain_table.specs.declared.scripts.Limits.{Limits}
 use Rattle.plain_table.specs.declared.events.Cell.{Cell}

@@ -1,21 +1,32 @@
 //! The plain table: what a table of handles is to its users, with no word, bit or link of any representation.
 //!
 //! This crate holds the data of scripts (`scripts.rt`), of reports (`reports.rt`) and of events (`events.rt`), and in
-//! `specs/` the definitions that every promise of the repository speaks of: the table and its opening (`Table.antt`),
-//! its cycle (`Cycle.antt`), the row of each event (`Rows.antt`), legal histories (`History.antt`), the events of a
-//! call (`Shapes.antt`) and what it is for an outcome to belong to a script by a history (`Belongs.antt`).
-//! It also computes the plain table: a `State` shows one (`state.rt` over `maps.rt`, `Kept.antt`), `step` makes an
-//! event exactly where it is legal (`steps.rt`), and `replay` says whether a list is a legal history (`replays.rt`).
+//! `specs/` the definitions that every promise of the repository speaks of: the table (`Table.antt`) and its cycle
+//! (`Cycle.antt`), the row of each event (`Rows.antt`), starts and finishes (`Finish.antt`), histories, the events of
+//! calls and scans, outcomes (`Belongs.antt`), sound tables, and the words that show them (`Shows.antt`).
+//! It also computes the plain table: a `State` shows one (`state.rt`, `cycle.rt`), `step` makes an event exactly where
+//! it is legal (`steps.rt` and the files that it names), `replay` says whether a list is a legal history, and
+//! `area_start` is the rule of the evacuation area.
 #![tactic(auto)]
 
+mod area;
+mod cycle;
+mod cycle_steps;
+mod entry_steps;
 mod events;
 mod maps;
+mod meet_steps;
+mod numbers;
+mod object_steps;
+mod reaches;
 mod replays;
 mod reports;
 mod scripts;
 mod state;
 mod steps;
+mod sweeps;
 
+pub use area::area_start;
 pub use events::{Act, Cell, Event, Field, Space, Spot};
 pub use replays::replay;
 pub use reports::{Compaction, MeetReport, Outcome, PhaseReport, Reply, SweepReport};

@@ -1,9 +1,10 @@
 // The maps and sets of a state, each change said at every place.
-ghost use Rattle.std.specs.Prelude.{◌≡◌, ℕ, ◌==◌, ◌&&◌, Some, None, true, false, if◌then◌else◌, OnOk};
+ghost use Rattle.std.specs.Prelude.{◌≡◌, ℕ, ◌==◌, ◌&&◌, Some, None, true, false, if◌then◌else◌, IfOk, OnOk};
 ghost use Rattle.std.specs.List.{list_any};
 ghost use Rattle.plain_table.specs.Entries.{at, at_pair, has, has_pair, word_at};
 
 use crate::OutOfMemory;
+use std::alloc::Global;
 use std::collections::{BTreeMap, BTreeSet};
 
 /// A pair of numbers as a key: a mutator and a variable, or a number and an index.
@@ -20,7 +21,8 @@ pub fn put<V: Drop>(map: &mut BTreeMap<u32, V>, key: u32, value: V) -> Result<()
     }
 }
 
-fn take_out<V: Drop>(map: &mut BTreeMap<u32, V>, key: u32)
+/// Takes out what stands at the key.
+pub fn take_out<V: Drop>(map: &mut BTreeMap<u32, V>, key: u32)
     ensures { (i : ℕ) → at map.new.entries i ≡ (if key == i then None else at map.old.entries i) }
 {
     let _ = map.remove(&key);
@@ -44,16 +46,62 @@ pub fn set_or_clear<V: Drop>(
 }
 
 /// Puts the value at the pair, in place of what stands there.
-pub fn put_pair<V: Drop>(
-    map: &mut BTreeMap<Pair, V>,
-    key: Pair,
-    value: V,
-) -> Result<(), OutOfMemory>
+fn put_pair<V: Drop>(map: &mut BTreeMap<Pair, V>, key: Pair, value: V) -> Result<(), OutOfMemory>
     ensures { OnOk result ((m i : ℕ) →
         at_pair map.new.entries m i ≡ (if (key.0 == m) && (key.1 == i) then Some value else at_pair map.old.entries m i)) }
 {
     match map.insert(key, value) {
         Ok(_) => Ok(()),
+        Err(_) => Err(OutOfMemory),
+    }
+}
+
+fn take_out_pair<V: Drop>(map: &mut BTreeMap<Pair, V>, key: Pair)
+    ensures { (m i : ℕ) →
+        at_pair map.new.entries m i ≡ (if (key.0 == m) && (key.1 == i) then None else at_pair map.old.entries m i) }
+{
+    let _ = map.remove(&key);
+}
+
+/// Puts the value at the pair, or takes out what is there where none is given.
+pub fn set_or_clear_pair<V: Drop>(
+    map: &mut BTreeMap<Pair, V>,
+    key: Pair,
+    value: Option<V>,
+) -> Result<(), OutOfMemory>
+    ensures { OnOk result ((m i : ℕ) →
+        at_pair map.new.entries m i ≡ (if (key.0 == m) && (key.1 == i) then value else at_pair map.old.entries m i)) }
+{
+    match value {
+        Some(value) => put_pair(map, key, value),
+        None => {
+            take_out_pair(map, key);
+            Ok(())
+        }
+    }
+}
+
+/// Copies a map from numbers.
+pub fn copy<V: Copy>(alloc: Global, map: &BTreeMap<u32, V>) -> Result<BTreeMap<u32, V>, OutOfMemory>
+    ensures { IfOk result (λ copied. copied.entries ≡ map.now.entries) }
+{
+    let mut copied = BTreeMap::new(alloc);
+    match copied.extend(map) {
+        Ok(()) => Ok(copied),
+        Err(_) => Err(OutOfMemory),
+    }
+}
+
+/// Copies a map from pairs.
+pub fn copy_pairs<V: Copy>(
+    alloc: Global,
+    map: &BTreeMap<Pair, V>,
+) -> Result<BTreeMap<Pair, V>, OutOfMemory>
+    ensures { IfOk result (λ copied. copied.entries ≡ map.now.entries) }
+{
+    let mut copied = BTreeMap::new(alloc);
+    match copied.extend(map) {
+        Ok(()) => Ok(copied),
         Err(_) => Err(OutOfMemory),
     }
 }

@@ -1,10 +1,12 @@
 // The plain program's state: the plain table in maps and sets, which `step` alone changes.
-ghost use Rattle.std.specs.Prelude.{◌≡◌, ℕ, ◌+◌, ◌^◌, ◌<◌, ◌↔◌, Some, true, false, IsTrue, OnOk, IfOk};
+ghost use Rattle.std.specs.Prelude.{◌≡◌, ℕ, ◌+◌, ◌^◌, ◌<◌, ◌↔◌, Some, None, true, false, IsTrue, IsFalse, OnOk, IfOk};
 
+use crate::cycle::CycleState;
 use crate::maps::{
-    Pair, add, add_pair, has_second, put, put_pair, remove_pair, set_or_clear, word_at,
+    Pair, add, add_pair, has_second, put, remove_pair, set_or_clear, set_or_clear_pair, take_out,
+    word_at,
 };
-use crate::{Cell, Field, Limits, OutOfMemory, Space};
+use crate::{Cell, Field, Limits, OutOfMemory, Space, Spot};
 use std::alloc::Global;
 use std::collections::{BTreeMap, BTreeSet};
 use std::marker::Model;
@@ -12,25 +14,28 @@ use std::marker::Model;
 /// The variables of a mutator.
 const VARIABLES: u32 = 16;
 
-/// A plain table, as far as the events that are built can change one, and whether it is spent. `shown` of
-/// `specs/Kept.antt` says which table it is. Claims are pairs of a number and an index.
+/// A plain table, and whether it is spent. `shown` of `specs/Kept.antt` says which table it is. Claims are pairs of a
+/// number and an index.
 #[derive(Drop)]
 pub struct State {
-    limits: Limits,
-    external_cells: BTreeMap<u32, Cell>,
-    trusted_cells: BTreeMap<u32, Cell>,
-    external_used: BTreeSet<u32>,
-    trusted_used: BTreeSet<u32>,
-    external_owed: BTreeSet<Pair>,
-    trusted_owed: BTreeSet<Pair>,
-    external_fresh: BTreeSet<Pair>,
-    trusted_fresh: BTreeSet<Pair>,
-    external_words: BTreeMap<u32, u32>,
-    trusted_words: BTreeMap<u32, u32>,
-    external_bound: BTreeMap<u32, u64>,
-    trusted_bound: BTreeMap<u32, u64>,
-    tickets: BTreeMap<u32, u32>,
-    variables: BTreeMap<Pair, u32>,
+    pub(crate) limits: Limits,
+    pub(crate) external_cells: BTreeMap<u32, Cell>,
+    pub(crate) trusted_cells: BTreeMap<u32, Cell>,
+    pub(crate) external_used: BTreeSet<u32>,
+    pub(crate) trusted_used: BTreeSet<u32>,
+    pub(crate) external_owed: BTreeSet<Pair>,
+    pub(crate) trusted_owed: BTreeSet<Pair>,
+    pub(crate) external_fresh: BTreeSet<Pair>,
+    pub(crate) trusted_fresh: BTreeSet<Pair>,
+    pub(crate) external_words: BTreeMap<u32, u32>,
+    pub(crate) trusted_words: BTreeMap<u32, u32>,
+    pub(crate) external_bound: BTreeMap<u32, u64>,
+    pub(crate) trusted_bound: BTreeMap<u32, u64>,
+    pub(crate) tickets: BTreeMap<u32, u32>,
+    pub(crate) references: BTreeMap<Pair, u32>,
+    pub(crate) globals: BTreeMap<u32, u32>,
+    pub(crate) variables: BTreeMap<Pair, u32>,
+    pub(crate) cycle: Option<CycleState>,
     count: u32,
     next: u64,
     spent: bool,
@@ -57,20 +62,24 @@ impl Model for State {
       external_bound = s.external_bound.entries;
       trusted_bound = s.trusted_bound.entries;
       tickets = s.tickets.entries;
+      references = s.references.entries;
+      globals = s.globals.entries;
       variables = s.variables.entries;
+      cycle = s.cycle;
       count = s.count;
       next = s.next;
       spent = s.spent;
     } };
 
-    ghost invariant = { λ s. (s.limits.seg * s.limits.ext ≤ 65536) × (s.limits.seg * s.limits.tru ≤ 65536) };
+    ghost invariant = { λ s. (1 ≤ s.limits.seg) × (s.limits.seg * s.limits.ext ≤ 65536) × (s.limits.seg * s.limits.tru ≤ 65536) };
 }
 
 impl State {
     ghost use Rattle.plain_table.specs.Kept.{shown};
     ghost use Rattle.plain_table.specs.Ranges.{IsInRange};
     ghost use Rattle.plain_table.specs.Places.{put_at, put_pair, put_entry, put_field, put_claim};
-    ghost use Rattle.plain_table.specs.Rows.{Holds, tickets_behind};
+    ghost use Rattle.plain_table.specs.Rows.{Holds, at_spot, tickets_behind, with_linked};
+    ghost use Rattle.plain_table.specs.Cycle.{start_in, marked_in, born_in, scanned_in, touched_in, evacuated_in, aborted_in};
     ghost use Rattle.plain_table.specs.Table.{opening, limit_of, least_free};
     ghost use Rattle.plain_table.specs.declared.events.Space.TheVariants.{Trusted};
 
@@ -100,7 +109,10 @@ impl State {
             external_bound: BTreeMap::new(alloc),
             trusted_bound: BTreeMap::new(alloc),
             tickets: BTreeMap::new(alloc),
+            references: BTreeMap::new(alloc),
+            globals: BTreeMap::new(alloc),
             variables: BTreeMap::new(alloc),
+            cycle: None,
             count: 0,
             next: 0,
             spent: false,
@@ -133,7 +145,7 @@ impl State {
     }
 
     /// The indexes of a space are those below its limit.
-    fn limit(&self, space: Space) -> u32
+    pub(crate) fn limit(&self, space: Space) -> u32
         ensures { result ≡ limit_of (shown self.now) space }
     {
         match space {
@@ -151,7 +163,7 @@ impl State {
         }
     }
 
-    fn is_used(&self, space: Space, index: u32) -> bool
+    pub(crate) fn is_used(&self, space: Space, index: u32) -> bool
         ensures { result ≡ (shown self.now).used space index }
     {
         match space {
@@ -206,7 +218,7 @@ impl State {
         }
     }
 
-    fn variable(&self, by: u32, var: u32) -> Option<u32>
+    pub(crate) fn variable(&self, by: u32, var: u32) -> Option<u32>
         ensures { result ≡ (shown self.now).vars by var }
     {
         self.variables.get(&(by, var)).copied()
@@ -222,6 +234,49 @@ impl State {
             }
         }
         false
+    }
+
+    /// The id of the cell that the field names as its own, where it names one.
+    pub(crate) fn bound(&self, field: Field) -> Option<u64>
+        ensures { result ≡ (shown self.now).bound field }
+    {
+        match field {
+            Field::External { number } => self.external_bound.get(&number).copied(),
+            Field::Trusted { number } => self.trusted_bound.get(&number).copied(),
+        }
+    }
+
+    pub(crate) fn ticket(&self, by: u32) -> Option<u32>
+        ensures { result ≡ (shown self.now).ticket by }
+    {
+        self.tickets.get(&by).copied()
+    }
+
+    /// The object at a place, where it holds one.
+    pub(crate) fn at_spot(&self, spot: Spot) -> Option<u32>
+        ensures { result ≡ at_spot (shown self.now) spot }
+    {
+        match spot {
+            Spot::Global { g } => self.globals.get(&g).copied(),
+            Spot::Ref { object, k } => self.references.get(&(object, k)).copied(),
+        }
+    }
+
+    /// A cycle is under way.
+    pub(crate) fn in_cycle(&self) -> bool
+        ensures { IsFalse result ↔ ((shown self.now).cycle ≡ None) }
+    {
+        self.cycle.is_some()
+    }
+
+    /// The first index of the evacuation area, where a cycle has one.
+    pub(crate) fn area(&self) -> Option<u32>
+        ensures { result ≡ start_in (shown self.now).cycle }
+    {
+        match &self.cycle {
+            Some(cycle) => cycle.start(),
+            None => None,
+        }
     }
 
     pub(crate) fn set_cell(
@@ -336,12 +391,110 @@ impl State {
         }
     }
 
-    pub(crate) fn set_variable(&mut self, by: u32, var: u32, object: u32) -> Result<(), OutOfMemory>
+    /// The mutator has no ticket any more.
+    pub(crate) fn drop_ticket(&mut self, by: u32)
         ensures table { let s = shown self.old in
-            OnOk result (shown self.new ≡ record s { vars = put_pair s.vars by var (Some object) }) }
+            shown self.new ≡ record s { ticket = put_at s.ticket by None } }
+        ensures spent { self.new.spent ≡ self.old.spent }
+    {
+        take_out(&mut self.tickets, by);
+    }
+
+    pub(crate) fn set_variable(
+        &mut self,
+        by: u32,
+        var: u32,
+        object: Option<u32>,
+    ) -> Result<(), OutOfMemory>
+        ensures table { let s = shown self.old in
+            OnOk result (shown self.new ≡ record s { vars = put_pair s.vars by var object }) }
         ensures spent { OnOk result (self.new.spent ≡ self.old.spent) }
     {
-        put_pair(&mut self.variables, (by, var), object)
+        set_or_clear_pair(&mut self.variables, (by, var), object)
+    }
+
+    /// The place holds the object, or nothing.
+    pub(crate) fn set_spot(&mut self, spot: Spot, object: Option<u32>) -> Result<(), OutOfMemory>
+        ensures table { OnOk result (shown self.new ≡ with_linked (shown self.old) spot object) }
+        ensures spent { OnOk result (self.new.spent ≡ self.old.spent) }
+    {
+        match spot {
+            Spot::Global { g } => set_or_clear(&mut self.globals, g, object),
+            Spot::Ref { object: from, k } => {
+                set_or_clear_pair(&mut self.references, (from, k), object)
+            }
+        }
+    }
+
+    /// In a cycle the index is marked.
+    pub(crate) fn mark(&mut self, space: Space, index: u32) -> Result<(), OutOfMemory>
+        ensures table { let s = shown self.old in
+            OnOk result (shown self.new ≡ record s { cycle = marked_in s.cycle space index }) }
+        ensures spent { OnOk result (self.new.spent ≡ self.old.spent) }
+    {
+        if let Some(cycle) = &mut self.cycle {
+            return cycle.mark(space, index);
+        }
+        Ok(())
+    }
+
+    /// In a cycle the object is born.
+    pub(crate) fn add_born(&mut self, object: u32) -> Result<(), OutOfMemory>
+        ensures table { let s = shown self.old in
+            OnOk result (shown self.new ≡ record s { cycle = born_in s.cycle object }) }
+        ensures spent { OnOk result (self.new.spent ≡ self.old.spent) }
+    {
+        if let Some(cycle) = &mut self.cycle {
+            return cycle.add_born(object);
+        }
+        Ok(())
+    }
+
+    /// In a cycle the object is scanned.
+    pub(crate) fn add_scan(&mut self, object: u32) -> Result<(), OutOfMemory>
+        ensures table { let s = shown self.old in
+            OnOk result (shown self.new ≡ record s { cycle = scanned_in s.cycle object }) }
+        ensures spent { OnOk result (self.new.spent ≡ self.old.spent) }
+    {
+        if let Some(cycle) = &mut self.cycle {
+            return cycle.add_scan(object);
+        }
+        Ok(())
+    }
+
+    /// In a cycle the word came into the field.
+    pub(crate) fn touch(&mut self, field: Field, word: u32) -> Result<(), OutOfMemory>
+        ensures table { let s = shown self.old in
+            OnOk result (shown self.new ≡ record s { cycle = touched_in s.cycle field word }) }
+        ensures spent { OnOk result (self.new.spent ≡ self.old.spent) }
+    {
+        if let Some(cycle) = &mut self.cycle {
+            return cycle.touch(field, word);
+        }
+        Ok(())
+    }
+
+    /// In a cycle an evacuation entry of the external field stands at the index.
+    pub(crate) fn add_entry(&mut self, index: u32, number: u32) -> Result<(), OutOfMemory>
+        ensures table { let s = shown self.old in
+            OnOk result (shown self.new ≡ record s { cycle = evacuated_in s.cycle index number }) }
+        ensures spent { OnOk result (self.new.spent ≡ self.old.spent) }
+    {
+        if let Some(cycle) = &mut self.cycle {
+            return cycle.add_entry(index, number);
+        }
+        Ok(())
+    }
+
+    /// In a cycle the compaction is aborted.
+    pub(crate) fn abort(&mut self)
+        ensures table { let s = shown self.old in
+            shown self.new ≡ record s { cycle = aborted_in s.cycle } }
+        ensures spent { self.new.spent ≡ self.old.spent }
+    {
+        if let Some(cycle) = &mut self.cycle {
+            cycle.abort();
+        }
     }
 
     pub(crate) fn add_object(&mut self)

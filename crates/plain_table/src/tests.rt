@@ -1,4 +1,14 @@
+ghost use Rattle.plain_table.specs.Ranges.{IsInRange};
+
+mod histories;
+mod made;
+mod refusals;
+
+use self::histories::LEGAL;
+use self::made::{append, events_of};
+use self::refusals::REFUSALS;
 use super::*;
+use std::process::Abort;
 use std::test::Fail;
 
 const LIMITS: Limits = Limits {
@@ -133,6 +143,78 @@ fn a_wrong_event_is_refused(rt: HostRuntime) -> Result<(), Fail> {
         assert!(rt; !step(rt.alloc(), &mut state, &event)?, "at {event:?}");
         events.push(event)?;
         assert!(rt; !replay(rt.alloc(), LIMITS, &events)?, "at {event:?}");
+    }
+    Ok(())
+}
+
+/// A table with so many external segments of four entries and so many objects.
+fn limits(rt: &impl Abort, ext: u32, objects: u32) -> Limits
+    ensures { IsInRange result }
+{
+    assert!(rt; 1 <= ext && ext <= 2 && 1 <= objects && objects <= 4);
+    Limits {
+        ext,
+        objects,
+        ..LIMITS
+    }
+}
+
+#[test]
+fn the_worked_histories_are_legal(rt: HostRuntime) -> Result<(), Fail> {
+    for (ext, objects, parts) in LEGAL {
+        let limits = limits(&rt, *ext, *objects);
+        let events = events_of(rt.alloc(), parts)?;
+        let mut state = State::start(rt.alloc(), limits)?;
+        for event in &events {
+            assert!(rt;
+                step(rt.alloc(), &mut state, event)?,
+                "{event:?} of {events:?}"
+            );
+        }
+        assert!(rt; replay(rt.alloc(), limits, &events)?, "{events:?}");
+    }
+    Ok(())
+}
+
+#[test]
+fn a_wrong_last_event_is_refused(rt: HostRuntime) -> Result<(), Fail> {
+    for refusals in REFUSALS {
+        let limits = limits(&rt, refusals.ext, refusals.objects);
+        for part in refusals.wrong {
+            let mut events = events_of(rt.alloc(), refusals.before)?;
+            append(&mut events, part)?;
+            assert!(rt; !replay(rt.alloc(), limits, &events)?, "{events:?}");
+            let last = events.pop().expect(&rt, "no event");
+            let mut state = State::start(rt.alloc(), limits)?;
+            for event in &events {
+                assert!(rt;
+                    step(rt.alloc(), &mut state, event)?,
+                    "{event:?} before {last:?}"
+                );
+            }
+            assert!(rt; !step(rt.alloc(), &mut state, &last)?, "{last:?}");
+        }
+    }
+    Ok(())
+}
+
+#[test]
+fn an_area_is_half_of_what_is_free(rt: HostRuntime) -> Result<(), Fail> {
+    let areas = [
+        (Policy::Auto, 4, 32, 16, Some(48)),
+        (Policy::Auto, 4, 33, 16, None),
+        (Policy::Auto, 20, 72, 4, Some(76)),
+        (Policy::Auto, 21, 76, 4, None),
+        (Policy::Auto, 3, 1, 16, None),
+        (Policy::Always, 5, 3, 4, Some(12)),
+        (Policy::Always, 1, 1, 4, None),
+        (Policy::Never, 5, 3, 4, None),
+    ];
+    for (policy, segs, used, seg, start) in areas {
+        assert!(rt;
+            area_start(policy, segs, used, seg) == start,
+            "at {policy:?} of {segs}"
+        );
     }
     Ok(())
 }

@@ -1,0 +1,89 @@
+-- The scans of a number: of each object that it scans it visits the three fields with an index word, in some order, and
+-- then says that the object is scanned. A visit marks the cell that the field's word names, if one stands there, and
+-- gives an external field whose cell lies in the evacuation area an entry below it, or aborts. Between these events
+-- others may make theirs, and each question is asked of the table at its point.
+use Rattle.std.specs.Prelude.{◌≡◌, ◌≢◌, ◌⊎◌, ℕ, false, List, [], ◌∷◌, length, None, IsTrue, IsSome}
+use Rattle.std.specs.List.{Contains}
+use Rattle.plain_table.specs.declared.events.Act.TheVariants.{Below, Abort, Mark, Evac, Scan}
+use Rattle.plain_table.specs.declared.events.Event.{Event}
+use Rattle.plain_table.specs.declared.events.Space.TheVariants.{External}
+use Rattle.plain_table.specs.declared.events.Field.{Field}
+use Rattle.plain_table.specs.declared.events.Field.TheVariants as field
+use Rattle.plain_table.specs.declared.reports.Reply.TheVariants as reply
+use Rattle.plain_table.specs.Index.{index_of}
+use Rattle.plain_table.specs.Places.{space_of, object_of}
+use Rattle.plain_table.specs.Cycle.{IsTouched, is_in_area}
+use Rattle.plain_table.specs.Table.{Table}
+use Rattle.plain_table.specs.Rows.{InCycle}
+use Rattle.plain_table.specs.History.{next}
+use Rattle.plain_table.specs.Shapes.{event}
+
+-- the three fields of an object, in some order
+abbrev pub AreFieldsOf : ℕ → List Field → Type 0
+AreFieldsOf o fields = (length fields ≡ 3) × ((f : Field) → object_of f ≡ o → Contains fields f)
+
+-- a word that a marker reads: 0, or one that stood in the field in this cycle
+abbrev pub IsReadBeside : Table → Field → ℕ → Type 0
+IsReadBeside s f w = (w ≡ 0) ⊎ InCycle s (λ c. IsTouched c f w)
+
+-- at a meet the word that stands in the field is read
+abbrev pub IsReadAtMeet : Table → Field → ℕ → Type 0
+IsReadAtMeet s f w = w ≡ s.words f
+
+-- the cell at the word's index need not move: it is outside the area, or none, or the compaction is aborted
+abbrev pub NeedNotMove : Table → ℕ → Type 0
+NeedNotMove s w =
+    (is_in_area s.cycle (index_of w) ≡ false) ⊎ (s.cells External (index_of w) ≡ None) ⊎ InCycle s (λ c. IsTrue c.aborted)
+
+-- the cell at the word's index stands in the area
+abbrev pub IsInArea : Table → ℕ → Type 0
+IsInArea s w = IsTrue (is_in_area s.cycle (index_of w)) × IsSome (s.cells External (index_of w))
+
+-- what a number that scans is at
+pub data Scanner : Type 0 where
+  -- it scans no object
+  Rest : Scanner
+  -- these fields of the object are still to be visited
+  Visit : (o : ℕ) → List Field → Scanner
+  -- the external field with this number had this word, whose cell may have to move
+  Move : (o : ℕ) → List Field → (number w : ℕ) → Scanner
+  -- an index is taken for the evacuation entry of that field
+  Fill : (o : ℕ) → List Field → (number i : ℕ) → Scanner
+  -- no index was free
+  GiveUp : (o : ℕ) → List Field → Scanner
+
+-- behind the mark of a field's word
+abbrev pub marked_at : ℕ → List Field → Field → ℕ → Scanner
+marked_at o fields (field.External number) w = Move o fields number w
+marked_at o fields (field.Trusted number) w = Visit o fields
+
+-- the events of number b in the list are shapes of scans, of objects that it may scan and by words that it may read
+pub data Scans (MayScan : Table → ℕ → Type 0) (IsRead : Table → Field → ℕ → Type 0) (b : ℕ) : Scanner → Table → List Event → Type 0 where
+  Ends : (s : Table) → Scans MayScan IsRead b Rest s []
+  Others : (at : Scanner) (s : Table) (e : Event) (es : List Event) → e.by ≢ b →
+      Scans MayScan IsRead b at (next s e) es → Scans MayScan IsRead b at s (e ∷ es)
+  Begins : (o : ℕ) (fields : List Field) (s : Table) (es : List Event) → MayScan s o → AreFieldsOf o fields →
+      Scans MayScan IsRead b (Visit o fields) s es → Scans MayScan IsRead b Rest s es
+  Marks : (o : ℕ) (f : Field) (w : ℕ) (fields : List Field) (s : Table) (es : List Event) → IsRead s f w →
+      Scans MayScan IsRead b (marked_at o fields f w) (next s (event b (Mark (space_of f) (index_of w)) reply.Ok)) es →
+      Scans MayScan IsRead b (Visit o (f ∷ fields)) s (event b (Mark (space_of f) (index_of w)) reply.Ok ∷ es)
+  Passes : (o : ℕ) (f : Field) (w : ℕ) (fields : List Field) (s : Table) (es : List Event) → IsRead s f w →
+      s.cells (space_of f) (index_of w) ≡ None →
+      Scans MayScan IsRead b (marked_at o fields f w) s es → Scans MayScan IsRead b (Visit o (f ∷ fields)) s es
+  Stays : (o number w : ℕ) (fields : List Field) (s : Table) (es : List Event) → NeedNotMove s w →
+      Scans MayScan IsRead b (Visit o fields) s es → Scans MayScan IsRead b (Move o fields number w) s es
+  Takes : (o number w start i : ℕ) (fields : List Field) (s : Table) (es : List Event) → IsInArea s w →
+      Scans MayScan IsRead b (Fill o fields number i) (next s (event b (Below start) (reply.Index i))) es →
+      Scans MayScan IsRead b (Move o fields number w) s (event b (Below start) (reply.Index i) ∷ es)
+  Fills : (o number i : ℕ) (fields : List Field) (s : Table) (es : List Event) →
+      Scans MayScan IsRead b (Visit o fields) (next s (event b (Evac i number) reply.Ok)) es →
+      Scans MayScan IsRead b (Fill o fields number i) s (event b (Evac i number) reply.Ok ∷ es)
+  Fails : (o number w start : ℕ) (fields : List Field) (s : Table) (es : List Event) → IsInArea s w →
+      Scans MayScan IsRead b (GiveUp o fields) (next s (event b (Below start) reply.NoRoom)) es →
+      Scans MayScan IsRead b (Move o fields number w) s (event b (Below start) reply.NoRoom ∷ es)
+  Aborts : (o : ℕ) (fields : List Field) (s : Table) (es : List Event) →
+      Scans MayScan IsRead b (Visit o fields) (next s (event b Abort reply.Ok)) es →
+      Scans MayScan IsRead b (GiveUp o fields) s (event b Abort reply.Ok ∷ es)
+  Says : (o : ℕ) (s : Table) (es : List Event) →
+      Scans MayScan IsRead b Rest (next s (event b (Scan o) reply.Ok)) es →
+      Scans MayScan IsRead b (Visit o []) s (event b (Scan o) reply.Ok ∷ es)
