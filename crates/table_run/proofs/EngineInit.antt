@@ -162,7 +162,7 @@ plays_full e var f tag value o held low full s h =
       legal = ((tt, sym (ap (λ (o : Option ℕ). option_map_or reply.Index o reply.Full) none)), tt);
       shape = subst (λ (x : Option ℕ). MatchOption x
           (IsEmptyCall reply.Full (event 0 (Take External) reply.Full ∷ []))
-          (λ x. IsInit 0 (external_field x f) tag value reply.Full (event 0 (Take External) reply.Full ∷ [])))
+          (λ x. IsInit 0 None (external_field x f) tag value reply.Full (event 0 (Take External) reply.Full ∷ [])))
           (sym (h.variables var ∙ held)) (inl (refl, refl));
       alone = (refl, tt);
       held = sym (ap (λ (t : Table). t.vars 0) behind);
@@ -191,7 +191,7 @@ plays_taken old new var f tag value o found fills small pair held read taken sam
       legal = legal_init old new tag value fills s h (2 * o + f) (reply.Taken found) (holds_field s var f o small pair holds) answer;
       shape = subst (λ (x : Option ℕ). MatchOption x
           (IsEmptyCall (reply.Taken found) (init_events (2 * o + f) old.used tag value (reply.Taken found)))
-          (λ x. IsInit 0 (external_field x f) tag value (reply.Taken found) (init_events (2 * o + f) old.used tag value (reply.Taken found))))
+          (λ x. IsInit 0 None (external_field x f) tag value (reply.Taken found) (init_events (2 * o + f) old.used tag value (reply.Taken found))))
           (sym holds) (inr (old.used, refl));
       alone = (refl, (refl, (refl, tt)));
       held = sym (ap (λ (t : Table). t.vars 0) behind);
@@ -244,7 +244,7 @@ plays_init old new var f tag value o fills small pair held read within made s h 
       legal = legal_init old new tag value fills s h (2 * o + f) reply.Ok (holds_field s var f o small pair holds) answer;
       shape = subst (λ (x : Option ℕ). MatchOption x
           (IsEmptyCall reply.Ok (init_events (2 * o + f) old.used tag value reply.Ok))
-          (λ x. IsInit 0 (external_field x f) tag value reply.Ok (init_events (2 * o + f) old.used tag value reply.Ok)))
+          (λ x. IsInit 0 None (external_field x f) tag value reply.Ok (init_events (2 * o + f) old.used tag value reply.Ok)))
           (sym holds) (inr (old.used, refl));
       alone = (refl, (refl, (refl, tt)));
       held = sym (ap (λ (t : Table). t.vars 0) behind);

@@ -60,7 +60,7 @@ plays_load e var f tag o w said small pair held read s h seen =
       legal = ((holds_field s var f o small pair holds, ap reply.Word (read ∙ sym (h.words (2 * o + f)))), ((tt, seen), tt));
       shape = subst (λ (x : Option ℕ). MatchOption x
           (IsEmptyCall said (event 0 (Name (external_field o f)) (reply.Word w) ∷ event 0 (Look External w tag) said ∷ []))
-          (λ x. IsLoad 0 (external_field x f) tag said (event 0 (Name (external_field o f)) (reply.Word w) ∷ event 0 (Look External w tag) said ∷ [])))
+          (λ x. IsLoad 0 External (external_field x f) tag said (event 0 (Name (external_field o f)) (reply.Word w) ∷ event 0 (Look External w tag) said ∷ [])))
           (sym holds) (w, refl);
       alone = (refl, (refl, tt));
       held = refl;

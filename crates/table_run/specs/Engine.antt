@@ -13,7 +13,8 @@ use Rattle.plain_table.specs.Rows.{HasCell, look, value_at, with_value}
 use Rattle.plain_table.specs.Table.{Table, limit_of}
 use Rattle.plain_table.specs.History.{IsLegalHistory, after}
 use Rattle.plain_table.specs.Shapes.{IsMiss, IsShape, held_after}
-use Rattle.plain_table.specs.Belongs.{is_external_put, cells_below, values_below}
+use Rattle.plain_table.specs.Sweeps.{cells_in}
+use Rattle.plain_table.specs.Belongs.{is_external_put, values_below}
 use Rattle.table_run.specs.declared.engine.Engine.{Engine}
 use Rattle.table_run.specs.declared.engine.Totals.{Totals}
 use Rattle.table_run.specs.EngineParts.{EntryShows}
@@ -31,11 +32,12 @@ pub record Shows (e : Engine) (s : Table) : Type 0 where
   pub count : s.count ≡ e.count
   pub cycle : s.cycle ≡ None
 
--- the engine made a call: its events are legal from the table s, and have the shape of the call and its reply
+-- the engine made a call: its events are legal from the table s, and have the shape of the call and its reply, outside a
+-- cycle and for a mutator without a ticket
 pub record Plays (old new : Engine) (s : Table) (op : Op) (said : Reply) : Type 0 where
   pub events : List Event
   pub legal : IsLegalHistory s events
-  pub shape : IsShape 0 (s.vars 0) op said events
+  pub shape : IsShape 0 None (s.vars 0) None op said events
   pub alone : AllByRecursion (λ (e : Event). e.by ≡ 0) events
   pub held : held_after (s.vars 0) events ≡ (after s events).vars 0
   pub puts : new.used ≡ old.used + count_by (λ (e : Event). is_external_put e.act) events
@@ -43,7 +45,7 @@ pub record Plays (old new : Engine) (s : Table) (op : Op) (said : Reply) : Type 
 
 -- the totals of the space's cells
 pub record IsTotal (s : Table) (totals : Totals) : Type 0 where
-  pub live : totals.live ≡ cells_below (s.cells External) (limit_of s External)
+  pub live : totals.live ≡ cells_in s External
   pub sum : totals.sum ≡ values_below (s.cells External) (limit_of s External) % 2 ^ 48
 
 -- a look found a value, and another one was written in its place

@@ -1,6 +1,6 @@
 -- What a run of calls leaves: one legal history, in which each call has its shape and reply, and the engine that shows
 -- the table behind it; and what it is to answer a script.
-use Rattle.std.specs.Prelude.{◌≡◌, ◌+◌, List}
+use Rattle.std.specs.Prelude.{◌≡◌, ◌+◌, List, None}
 use Rattle.std.specs.List.{AllByRecursion, count_by}
 use Rattle.plain_table.specs.declared.scripts.Op.{Op}
 use Rattle.plain_table.specs.declared.scripts.Script.{Script}
@@ -10,15 +10,16 @@ use Rattle.plain_table.specs.declared.reports.Outcome.{Outcome}
 use Rattle.plain_table.specs.Table.{Table}
 use Rattle.plain_table.specs.History.{IsLegalHistory, after}
 use Rattle.plain_table.specs.Shapes.{MakesCalls, held_after}
-use Rattle.plain_table.specs.Belongs.{Belongs, is_external_put}
+use Rattle.plain_table.specs.Belongs.{Belongs, Part, is_external_put}
 use Rattle.table_run.specs.declared.engine.Engine.{Engine}
 use Rattle.table_run.specs.Engine.{Shows}
 
--- the engine made these calls in turn: their events are legal from the table s
+-- the engine made these calls in turn: their events are legal from the table s, outside a cycle and for a mutator
+-- without a ticket
 pub record HasPlayed (old new : Engine) (s : Table) (calls : List Op) (replies : List Reply) : Type 0 where
   pub events : List Event
   pub legal : IsLegalHistory s events
-  pub made : MakesCalls 0 (s.vars 0) calls replies events
+  pub made : MakesCalls 0 None (s.vars 0) None calls replies events
   pub alone : AllByRecursion (λ (e : Event). e.by ≡ 0) events
   pub held : held_after (s.vars 0) events ≡ (after s events).vars 0
   pub puts : new.used ≡ old.used + count_by (λ (e : Event). is_external_put e.act) events
@@ -26,4 +27,4 @@ pub record HasPlayed (old new : Engine) (s : Table) (calls : List Op) (replies :
 
 -- the outcome belongs to the script by some history
 abbrev pub Answers : Script → Outcome → Type 0
-Answers script outcome = (parts : List (List Event)) × Belongs script parts outcome
+Answers script outcome = (parts : List Part) × Belongs script parts outcome

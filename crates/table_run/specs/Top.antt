@@ -3,9 +3,8 @@
 use Rattle.std.specs.Prelude.{◌≡◌, ℕ, ◌<◌, ◌≤◌, if◌then◌else◌, false, List, [], ◌∷◌, length, take, codes, Option, Some, None, Ok, Err, IsTrue}
 use Rattle.std.specs.Str.{bytes_eq}
 use Rattle.plain_table.specs.declared.scripts.Script.{Script}
-use Rattle.plain_table.specs.declared.events.Event.{Event}
 use Rattle.plain_table.specs.declared.reports.Outcome.{Outcome}
-use Rattle.plain_table.specs.Belongs.{Belongs}
+use Rattle.plain_table.specs.Belongs.{Belongs, Part}
 use Rattle.ept_io.specs.Bytes.{Took}
 use Rattle.script_reader.specs.Grammar.{script_of}
 use Rattle.script_reader.specs.Canonical.{canonical_of}
@@ -42,7 +41,7 @@ code_of status.NotBuilt = 8
 -- the text is the report of an outcome that belongs to the script, which can be run, by some history
 pub record IsReportOf (script : Script) (text : List ℕ) : Type 0 where
   pub built : IsTrue (is_built script)
-  pub history : List (List Event)
+  pub history : List Part
   pub outcome : Outcome
   pub belongs : Belongs script history outcome
   pub report : text ≡ report_of outcome
