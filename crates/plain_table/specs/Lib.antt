@@ -23,3 +23,7 @@ pub mod Kept
 pub mod KeptSwept
 pub mod Steps
 pub mod Named
+pub mod Steady
+pub mod Stored
+pub mod Causes
+pub mod Laws

@@ -6,7 +6,7 @@
 //! calls and scans, outcomes (`Belongs.antt`), sound tables, and the words that show them (`Shows.antt`).
 //! It also computes the plain table: a `State` shows one (`state.rt`, `cycle.rt`), `step` makes an event exactly where
 //! it is legal (`steps.rt` and the files that it names), `replay` says whether a list is a legal history, and
-//! `area_start` is the rule of the evacuation area.
+//! `area_start` is the rule of the evacuation area. `laws.rt` holds the laws of the definitions.
 #![tactic(auto)]
 
 mod area;
@@ -14,6 +14,7 @@ mod cycle;
 mod cycle_steps;
 mod entry_steps;
 mod events;
+mod laws;
 mod maps;
 mod meet_steps;
 mod numbers;
@@ -28,6 +29,12 @@ mod sweeps;
 
 pub use area::area_start;
 pub use events::{Act, Cell, Event, Field, Space, Spot};
+pub use laws::{
+    cells_move_to_their_target, events_are_steady, events_keep_soundness, finishes_are_precise,
+    finishes_cannot_be_refused, fresh_images_show_the_opening, histories_are_sound,
+    holders_keep_their_index, holders_read_their_own, openings_are_sound, reach_only_grows_by_new,
+    values_were_stored,
+};
 pub use replays::replay;
 pub use reports::{Compaction, MeetReport, Outcome, PhaseReport, Reply, SweepReport};
 pub use scripts::{Limits, Meet, Op, Phase, Policy, Script};
