@@ -58,3 +58,16 @@ pub mod Steadiness
 pub mod SoundHistories
 pub mod StoredValues
 pub mod Causes
+pub mod WordPlaces
+pub mod ShownParts
+pub mod WordChanges
+pub mod FieldWords
+pub mod EntryWords
+pub mod CellWords
+pub mod QuietWords
+pub mod LinkWords
+pub mod CountWords
+pub mod HeaderWords
+pub mod FreeLists
+pub mod FreelistReads
+pub mod FreelistWords

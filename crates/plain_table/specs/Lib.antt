@@ -27,3 +27,4 @@ pub mod Steady
 pub mod Stored
 pub mod Causes
 pub mod Laws
+pub mod WordLaws

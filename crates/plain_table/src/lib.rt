@@ -6,7 +6,7 @@
 //! calls and scans, outcomes (`Belongs.antt`), sound tables, and the words that show them (`Shows.antt`).
 //! It also computes the plain table: a `State` shows one (`state.rt`, `cycle.rt`), `step` makes an event exactly where
 //! it is legal (`steps.rt` and the files that it names), `replay` says whether a list is a legal history, and
-//! `area_start` is the rule of the evacuation area. `laws.rt` holds the laws of the definitions.
+//! `area_start` is the rule of the evacuation area. `laws.rt` and `word_laws.rt` hold the laws of the definitions.
 #![tactic(auto)]
 
 mod area;
@@ -26,6 +26,7 @@ mod scripts;
 mod state;
 mod steps;
 mod sweeps;
+mod word_laws;
 
 pub use area::area_start;
 pub use events::{Act, Cell, Event, Field, Space, Spot};
@@ -40,6 +41,11 @@ pub use reports::{Compaction, MeetReport, Outcome, PhaseReport, Reply, SweepRepo
 pub use scripts::{Limits, Meet, Op, Phase, Policy, Script};
 pub use state::State;
 pub use steps::step;
+pub use word_laws::{
+    area_words_follow, cell_words_follow, count_words_follow, evacuation_words_follow,
+    field_words_follow, freelist_words_follow, freelists_tell, link_words_follow,
+    scan_words_follow, shaded_words_stay, words_stay,
+};
 
 /// An allocation failed.
 #[derive(Clone, Copy, Debug, PartialEq, Eq)]
