@@ -13,14 +13,14 @@ use Rattle.plain_table.specs.Cycle.{Cycle, start_in, marked_in, evacuated_in}
 use Rattle.plain_table.specs.Table.{Table}
 use Rattle.plain_table.specs.Finish.{id_at}
 use Rattle.plain_table.specs.Rows.{row}
-use Rattle.plain_table.specs.Sound.{IsSound, entries_in}
+use Rattle.plain_table.specs.Sound.{entries_in}
 use Rattle.plain_table.specs.Words.{entry_place, cell_word, evacuation_word}
 use Rattle.plain_table.specs.Shows.{Shows, entry_at}
-use Rattle.plain_table.specs.WordLaws.{WritesCell, CellWordsFollow, EvacuationWordsFollow}
-use Rattle.plain_table.proofs.PlaceReads.{read_entry, put_at-same, put_at-other}
+use Rattle.plain_table.specs.WordLaws.{WritesCell, CellWordsFollow, EvacuationWordsFollow, HasSoundIndexes}
+use Rattle.plain_table.proofs.PlaceReads.{read_entry, put_at-same, put_at-other, put_entry-same}
 use Rattle.plain_table.proofs.WordPlaces.{entry_place-below}
 use Rattle.plain_table.proofs.ShownParts.{IsMarkIn, ShownParts-Shows, Shows-ShownParts}
-use Rattle.plain_table.proofs.WordChanges.{Changed, Changed-slice_set, AreWithin-IsSound, no_cell-id}
+use Rattle.plain_table.proofs.WordChanges.{Changed, Changed-slice_set, AreWithin-HasSoundIndexes, no_cell-id}
 use Rattle.plain_table.proofs.EntryWords.{EntryTells, Shown-entry}
 
 -- the marks behind a mark
@@ -50,8 +50,8 @@ put_entry-changed cells p i found = λ q j apart. elim (read_entry found cells p
 ]
 
 -- a place that has a cell, or that a number owes, has no evacuation entry
-filled-no_entry : (s : Table) (p : Space) (i : ℕ) → IsSound s → IsSome (id_at s p i) → entry_at s p i ≡ None
-filled-no_entry s External i h filled = by_case (entries_in s.cycle i) (h.used.entries i)
+filled-no_entry : (s : Table) (p : Space) (i : ℕ) → HasSoundIndexes s → IsSome (id_at s p i) → entry_at s p i ≡ None
+filled-no_entry s External i h filled = by_case (entries_in s.cycle i) (h.entries i)
   where
     by_case : (found : Option ℕ) → (IsSome found → IsTrue (s.used External i) × (i ≢ 0) × (id_at s External i ≡ None)) → found ≡ None
     by_case None stands = refl
@@ -62,8 +62,8 @@ filled-no_entry s External i h filled = by_case (entries_in s.cycle i) (h.used.e
         none_filled (Some n) e is = absurd (cc)
 filled-no_entry s Trusted i h filled = refl
 
-owed-no_entry : (s : Table) (b : ℕ) (p : Space) (i : ℕ) → IsSound s → IsTrue (s.owed b p i) → entry_at s p i ≡ None
-owed-no_entry s b External i h owed = h.used.claim_or_entry b i owed
+owed-no_entry : (s : Table) (b : ℕ) (p : Space) (i : ℕ) → HasSoundIndexes s → IsTrue (s.owed b p i) → entry_at s p i ≡ None
+owed-no_entry s b External i h owed = h.claim_or_entry b i owed
 owed-no_entry s b Trusted i h owed = refl
 
 -- the word of a cell
@@ -81,42 +81,42 @@ record IsFillable (s : Table) (p : Space) (i : ℕ) : Type 0 where
   later : i ≢ 0
   no_entry : entry_at s p i ≡ None
 
-IsFillable-filled : (s : Table) (p : Space) (i : ℕ) → IsSound s → IsSome (id_at s p i) → IsFillable s p i
+IsFillable-filled : (s : Table) (p : Space) (i : ℕ) → HasSoundIndexes s → IsSome (id_at s p i) → IsFillable s p i
 IsFillable-filled s p i h filled = record {
-  taken = (h.used.cells p i filled).0;
-  later = (h.used.cells p i filled).1;
+  taken = (h.cells p i filled).0;
+  later = (h.cells p i filled).1;
   no_entry = filled-no_entry s p i h filled;
 }
 
-IsFillable-owed : (s : Table) (b : ℕ) (p : Space) (i : ℕ) → IsSound s → IsTrue (s.owed b p i) → IsFillable s p i
+IsFillable-owed : (s : Table) (b : ℕ) (p : Space) (i : ℕ) → HasSoundIndexes s → IsTrue (s.owed b p i) → IsFillable s p i
 IsFillable-owed s b p i h owed = record {
-  taken = (h.used.claims b p i owed).0;
-  later = (h.used.claims b p i owed).1;
+  taken = (h.claims b p i owed).0;
+  later = (h.claims b p i owed).1;
   no_entry = owed-no_entry s b p i h owed;
 }
 
-Changed-entry : (words : List ℕ) (s : Table) (p : Space) (i w : ℕ) → IsSound s → IsTrue (s.used p i) → Shows words s →
+Changed-entry : (words : List ℕ) (s : Table) (p : Space) (i w : ℕ) → HasSoundIndexes s → IsTrue (s.used p i) → Shows words s →
     Changed words (slice_set words (entry_place s.sizes p i) w) (entry_place s.sizes p i) w
 Changed-entry words s p i w h taken shows =
     Changed-slice_set words (entry_place s.sizes p i) w
-    (omega (arith, entry_place-below s.sizes p i ((AreWithin-IsSound s h).below p i taken), shows.whole))
+    (omega (arith, entry_place-below s.sizes p i ((AreWithin-HasSoundIndexes s h).below p i taken), shows.whole))
 
 module _ (words : List ℕ) (s : Table) (p : Space) (i : ℕ) (cell : Cell) where
   -- whatever becomes of owed and fresh indexes, tickets and the number of puts
   Shows-cell : (cycle : Option Cycle) (cells : Space → ℕ → Option Cell) (owed fresh : ℕ → Space → ℕ → Bool) (ticket : ℕ → Option ℕ) (next : ℕ) →
-      IsSound (record s { cycle = cycle }) → IsFillable (record s { cycle = cycle }) p i → AreChangedAt p i s.cells cells → cells p i ≡ Some cell →
+      HasSoundIndexes (record s { cycle = cycle }) → IsFillable (record s { cycle = cycle }) p i → AreChangedAt p i s.cells cells → cells p i ≡ Some cell →
       Shows words (record s { cycle = cycle }) →
       Shows (slice_set words (entry_place s.sizes p i) (cell_word cell true))
       (record s { cells = cells; owed = owed; fresh = fresh; ticket = ticket; next = next; cycle = marked_in cycle p i })
   Shows-cell None cells owed fresh ticket next h fills changed stands shows =
       Shows-ShownParts _ _ (Shown-entry p i (cell_word cell true) (Changed-entry words (record s { cycle = None }) p i (cell_word cell true) h fills.taken shows)
-      (AreWithin-IsSound (record s { cycle = None }) h) fills.taken fills.later
+      (AreWithin-HasSoundIndexes (record s { cycle = None }) h) fills.taken fills.later
       (EntryTells-cell None p i cell (cells p i) (entry_at (record s { cycle = None }) p i) stands fills.no_entry)
       (record { filled = changed; evacuated = λ q j apart. refl; marked = λ q j m apart was. IsMarkIn-other None p i q j m apart was })
       (ShownParts-Shows _ _ shows))
   Shows-cell (Some c) cells owed fresh ticket next h fills changed stands shows =
       Shows-ShownParts _ _ (Shown-entry p i (cell_word cell true) (Changed-entry words (record s { cycle = Some c }) p i (cell_word cell true) h fills.taken shows)
-      (AreWithin-IsSound (record s { cycle = Some c }) h) fills.taken fills.later
+      (AreWithin-HasSoundIndexes (record s { cycle = Some c }) h) fills.taken fills.later
       (EntryTells-cell (Some c) p i cell (cells p i) (entry_at (record s { cycle = Some c }) p i) stands fills.no_entry)
       (record { filled = changed; evacuated = λ q j apart. refl; marked = λ q j m apart was. IsMarkIn-other (Some c) p i q j m apart was })
       (ShownParts-Shows _ _ shows))
@@ -133,7 +133,13 @@ in_cycle-cell : (cycle : Option Cycle) (Q : Type 0) (P : Cycle → Type 0) → I
 in_cycle-cell None Q P is = absurd is
 in_cycle-cell (Some c) Q P is = is.0
 
-CellWords-row : (words : List ℕ) (s : Table) (b : ℕ) (a : Act) (p : Space) (i : ℕ) (cell : Cell) → IsSound s → Shows words s →
+-- where a published cell stands, a cell stood
+published-some : (found : Option Cell) (cell : Cell) → option_map (λ (c : Cell). record c { shown = true }) found ≡ Some cell →
+    IsSome (option_map (λ (c : Cell). c.id) found)
+published-some None cell is = absurd (cc)
+published-some (Some c) cell is = refl
+
+CellWords-row : (words : List ℕ) (s : Table) (b : ℕ) (a : Act) (p : Space) (i : ℕ) (cell : Cell) → HasSoundIndexes s → Shows words s →
     (row s b a).allowed → WritesCell a p i → CellFollows words s (row s b a).next cell p i
 CellWords-row words s b (Put q j tag value) p i cell h shows legal (space, index) =
     subst₂ (CellFollows words s (row s b (Put q j tag value)).next cell) space index
@@ -151,7 +157,7 @@ CellWords-row words s b (Swap word tag value) p i cell h shows legal (space, ind
 CellWords-row words s b (Publish j) p i cell h shows legal (space, index) =
     subst₂ (CellFollows words s (row s b (Publish j)).next cell) space index
     (λ stands. Shows-cell words s Trusted j cell s.cycle _ _ _ _ _ h
-    (IsFillable-filled s Trusted j h (id_at-some (s.cells Trusted j) _ (h.tickets.hidden b j legal)))
+    (IsFillable-filled s Trusted j h (published-some (s.cells Trusted j) cell (sym (put_entry-same s.cells Trusted j _) ∙ stands)))
     (put_entry-changed s.cells Trusted j _) stands shows)
 CellWords-row words s b (Mark q j) p i cell h shows legal (space, index) =
     subst₂ (CellFollows words s (row s b (Mark q j)).next cell) space index
@@ -178,23 +184,23 @@ evacuated-other s c i number External j apart = put_at-other c.evac i j (Some nu
 evacuated-other s c i number Trusted j apart = refl
 
 Shows-evacuation : (words : List ℕ) (s : Table) (i number : ℕ) (cycle : Option Cycle) (owed : ℕ → Space → ℕ → Bool) (P : ℕ → Type 0) →
-    IsSound (record s { cycle = cycle }) → IsFillable (record s { cycle = cycle }) External i → s.cells External i ≡ None →
+    HasSoundIndexes (record s { cycle = cycle }) → IsFillable (record s { cycle = cycle }) External i → s.cells External i ≡ None →
     IsSomeAnd (start_in cycle) P → Shows words (record s { cycle = cycle }) →
     Shows (slice_set words (entry_place s.sizes External i) (evacuation_word number)) (record s { owed = owed; cycle = evacuated_in cycle i number })
 Shows-evacuation words s i number None owed P h fills none area shows = absurd area
 Shows-evacuation words s i number (Some c) owed P h fills none area shows =
     Shows-ShownParts _ _ (Shown-entry External i (evacuation_word number)
     (Changed-entry words (record s { cycle = Some c }) External i (evacuation_word number) h fills.taken shows)
-    (AreWithin-IsSound (record s { cycle = Some c }) h) fills.taken fills.later
+    (AreWithin-HasSoundIndexes (record s { cycle = Some c }) h) fills.taken fills.later
     (EntryTells-entry (Some c) i number c.evac (s.cells External i) (IsMarkIn (Some c) External i) none)
     (record { filled = λ q j apart. refl; evacuated = evacuated-other s c i number; marked = λ q j m apart was. was })
     (ShownParts-Shows _ _ shows))
 
-EvacuationWords-row : (words : List ℕ) (s : Table) (b i number : ℕ) → IsSound s → Shows words s → (row s b (Evac i number)).allowed →
+EvacuationWords-row : (words : List ℕ) (s : Table) (b i number : ℕ) → HasSoundIndexes s → Shows words s → (row s b (Evac i number)).allowed →
     Shows (slice_set words (entry_place s.sizes External i) (evacuation_word number)) (row s b (Evac i number)).next
 EvacuationWords-row words s b i number h shows legal =
     Shows-evacuation words s i number s.cycle _ _ h (IsFillable-owed s b External i h legal.0)
-    (no_cell-id (s.cells External i) (h.used.claims b External i legal.0).2) legal.1 shows
+    (no_cell-id (s.cells External i) (h.claims b External i legal.0).2) legal.1 shows
 
 pub EvacuationWordsFollow-row : EvacuationWordsFollow
 EvacuationWordsFollow-row words s e i number h shows legal is =

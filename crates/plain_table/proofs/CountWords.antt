@@ -115,10 +115,10 @@ module _ (words : List ℕ) (s : Table) where
   Shows-made b var o said false shows is made = absurd (cc)
 
 pub CountWordsFollow-row : CountWordsFollow
-CountWordsFollow-row words s e var o h shows legal is said =
+CountWordsFollow-row words s e var o shows legal is said =
     subst (λ a. e.said ≡ (row s e.by a).reply → Shows (slice_set words count_place (s.count + 1)) (row s e.by a).next) (sym is)
     (λ replied. Shows-made words s e.by var o e.said (nat_lt s.count s.sizes.objects) shows replied said) legal.1
 
 pub AreaWordsFollow-row : AreaWordsFollow
-AreaWordsFollow-row words s e h shows legal is =
+AreaWordsFollow-row words s e shows legal is =
     subst (λ a. Shows (slice_set words area_place (area_word (row s e.by a).next.cycle)) (row s e.by a).next) (sym is) (Shows-aborted words s s.cycle shows)

@@ -11,8 +11,7 @@ use Rattle.plain_table.specs.declared.reports.Reply.TheVariants as reply
 use Rattle.plain_table.specs.Places.{object_of, put_field}
 use Rattle.plain_table.specs.Cycle.{Cycle, touched_in}
 use Rattle.plain_table.specs.Table.{Table, Sizes}
-use Rattle.plain_table.specs.Rows.{Holds, row, with_bound, with_unbound}
-use Rattle.plain_table.specs.Sound.{IsSound}
+use Rattle.plain_table.specs.Rows.{row, with_bound, with_unbound}
 use Rattle.plain_table.specs.Words.{field_place}
 use Rattle.plain_table.specs.Shows.{Shows}
 use Rattle.plain_table.specs.WordLaws.{WritesField, FieldWordsFollow}
@@ -43,10 +42,6 @@ module _ {words changed : List ℕ} (f : Field) (w : ℕ) (h : Changed words cha
         (λ p e. omega (arith, freelist_place-below p, field_place-from f, e)) shown.entries;
   }
 
--- an object that is held is one of those that there may be
-pub Holds-below_most : (s : Table) (b o : ℕ) → IsSound s → Holds s b o → o < s.sizes.objects
-Holds-below_most s b o h held = omega (arith, (h.objects.variables b held.0 o held.2).2, h.objects.few)
-
 -- the list with the word of a field, where words show a table with its object
 Changed-field : (words : List ℕ) (s : Table) (f : Field) (w : ℕ) → object_of f < s.sizes.objects → Shows words s →
     Changed words (slice_set words (field_place f) w) (field_place f) w
@@ -70,17 +65,17 @@ Shows-bind : (words : List ℕ) (s : Table) (b : ℕ) (f : Field) (w : ℕ) (sai
 Shows-bind words s b f w said true made shows ok is = Shows-field words s f w made s.cycle _ _ _ shows
 Shows-bind words s b f w said false made shows ok is = absurd (cc)
 
-FieldWords-row : (words : List ℕ) (s : Table) (b : ℕ) (a : Act) (said : Reply) (f : Field) (w : ℕ) → IsSound s → Shows words s →
-    (row s b a).allowed → said ≡ (row s b a).reply → WritesField a said f w → Shows (slice_set words (field_place f) w) (row s b a).next
-FieldWords-row words s b (Bind g v) said f w h shows legal is (same, names, ok) =
+FieldWords-row : (words : List ℕ) (s : Table) (b : ℕ) (a : Act) (said : Reply) (f : Field) (w : ℕ) → object_of f < s.sizes.objects → Shows words s →
+    said ≡ (row s b a).reply → WritesField a said f w → Shows (slice_set words (field_place f) w) (row s b a).next
+FieldWords-row words s b (Bind g v) said f w made shows is (same, names, ok) =
     subst (λ x. Shows (slice_set words (field_place x) w) (row s b (Bind g v)).next) same
     (subst (λ x. Shows (slice_set words (field_place g) x) (row s b (Bind g v)).next) names
-    (Shows-bind words s b g v said (s.words g == 0) (Holds-below_most s b (object_of g) h legal.0) shows ok is))
-FieldWords-row words s b (Forge number v) said f w h shows legal is (same, names) =
+    (Shows-bind words s b g v said (s.words g == 0) (subst (λ x. object_of x < s.sizes.objects) (sym same) made) shows ok is))
+FieldWords-row words s b (Forge number v) said f w made shows is (same, names) =
     subst (λ x. Shows (slice_set words (field_place x) w) (row s b (Forge number v)).next) same
     (subst (λ x. Shows (slice_set words (field_place (field.External number)) x) (row s b (Forge number v)).next) names
-    (Shows-field words s (field.External number) v (Holds-below_most s b (object_of (field.External number)) h legal.0) s.cycle _ _ _ shows))
-FieldWords-row words s b _ said f w h shows legal is wrong = absurd wrong
+    (Shows-field words s (field.External number) v (subst (λ x. object_of x < s.sizes.objects) (sym same) made) s.cycle _ _ _ shows))
+FieldWords-row words s b _ said f w made shows is wrong = absurd wrong
 
 pub FieldWordsFollow-row : FieldWordsFollow
-FieldWordsFollow-row words s e f w h shows legal writes = FieldWords-row words s e.by e.act e.said f w h shows legal.0 legal.1 writes
+FieldWordsFollow-row words s e f w made shows legal writes = FieldWords-row words s e.by e.act e.said f w made shows legal.1 writes

@@ -100,6 +100,6 @@ pub FreelistsTell-shown : FreelistsTell
 FreelistsTell-shown words s p h shows few =
     let space = (ShownParts-Shows words s shows).entries.spaces p in (
       space.0,
-      FreelistTells-by s p (λ i. slice_index words (entry_place s.sizes p i)) (slice_index words (freelist_place p)) space.0 (h.used.first p) few space.1
+      FreelistTells-by s p (λ i. slice_index words (entry_place s.sizes p i)) (slice_index words (freelist_place p)) space.0 h few space.1
           (least_from (s.used p) 1 (space.0 - 1)) refl,
     )

@@ -15,7 +15,6 @@ use Rattle.plain_table.specs.Places.{put_entry}
 use Rattle.plain_table.specs.Area.{count_below}
 use Rattle.plain_table.specs.Table.{Table, Sizes, limit_of, least_from, least_free}
 use Rattle.plain_table.specs.Rows.{row, free_below, with_taken}
-use Rattle.plain_table.specs.Sound.{IsSound}
 use Rattle.plain_table.specs.Words.{freelist_place, entry_place, free_word, freelist_word, next_free}
 use Rattle.plain_table.specs.Shows.{Shows}
 use Rattle.plain_table.specs.WordLaws.{TakesFrom, FreelistWordsFollow}
@@ -207,17 +206,17 @@ module _ (words : List ℕ) (s : Table) (b : ℕ) (p : Space) (i link len : ℕ)
       (Shows-take_by (least k refl ∙ ap Some (sym same)) (ShownParts-Shows words s shows) (least_from (s.used p) 1 (((ShownParts-Shows words s shows).entries.spaces p).0 - 1)) refl
       (Changed-slice_set words (freelist_place p) (freelist_word link len) (omega (arith, freelist_place-below p, shows.whole))))
 
-FreelistWords-row : (words : List ℕ) (s : Table) (b : ℕ) (a : Act) (said : Reply) (p : Space) (i link len : ℕ) → IsSound s → Shows words s → limit_of s p < 2 ^ 32 →
+FreelistWords-row : (words : List ℕ) (s : Table) (b : ℕ) (a : Act) (said : Reply) (p : Space) (i link len : ℕ) → IsTrue (s.used p 0) → Shows words s → limit_of s p < 2 ^ 32 →
     said ≡ (row s b a).reply → TakesFrom a p → said ≡ reply.Index i →
     slice_index words (freelist_place p) / 2 ^ 32 ≡ len + 1 → slice_index words (entry_place s.sizes p i) ≡ free_word link →
     Shows (slice_set words (freelist_place p) (freelist_word link len)) (row s b a).next
 FreelistWords-row words s b (Take q) said p i link len h shows few replied space index long links =
     subst (λ r. Shows (slice_set words (freelist_place p) (freelist_word link len)) (with_taken s b r (least_free s r))) (sym space)
-    (Shows-take words s b p i link len (h.used.first p) few long links shows said reply.Full (least_free s p) (λ k is. is) (λ e. absurd (cc))
+    (Shows-take words s b p i link len h few long links shows said reply.Full (least_free s p) (λ k is. is) (λ e. absurd (cc))
     (replied ∙ ap (λ r. option_map_or reply.Index (least_free s r) reply.Full) space) index)
 FreelistWords-row words s b (Below start) said p i link len h shows few replied space index long links =
     subst (λ r. Shows (slice_set words (freelist_place p) (freelist_word link len)) (with_taken s b r (free_below s start))) (sym space)
-    (Shows-take words s b p i link len (h.used.first p) few long links shows said reply.NoRoom (free_below s start)
+    (Shows-take words s b p i link len h few long links shows said reply.NoRoom (free_below s start)
     (λ k is. subst (λ r. least_free s r ≡ Some k) space (free_below-some s start k is)) (λ e. absurd (cc)) replied index)
 FreelistWords-row words s b _ said p i link len h shows few replied wrong index long links = absurd wrong
 

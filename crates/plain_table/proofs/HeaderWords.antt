@@ -1,15 +1,14 @@
 -- Header words: behind a scan the list with a black header shows the table, and shading an object shows the same table.
-use Rattle.std.proofs.Common.{◌≡◌, ◌≢◌, ◌<◌, ℕ, Bool, true, false, List, slice_index, slice_set, Option, Some, None, IsSomeAnd, IfSome, refl, sym, ap, subst, ◌∙◌, inl, inr, arith}
+use Rattle.std.proofs.Common.{◌≡◌, ◌≢◌, ◌<◌, ℕ, Bool, true, List, slice_index, slice_set, Option, Some, None, IsSomeAnd, refl, sym, ap, subst, ◌∙◌, inl, inr, arith}
 use Rattle.std.specs.Prelude.{◌||◌, nat_le}
 use Rattle.std.proofs.lemmas.Bool.Decides.{eqb_tells}
 use Rattle.plain_table.specs.declared.events.Cell.{Cell}
 use Rattle.plain_table.specs.declared.events.Space.{Space}
 use Rattle.plain_table.specs.declared.events.Field.{Field}
 use Rattle.plain_table.specs.Places.{put_at}
-use Rattle.plain_table.specs.Cycle.{Cycle, IsOld, scanned_in}
+use Rattle.plain_table.specs.Cycle.{Cycle, scanned_in}
 use Rattle.plain_table.specs.Table.{Table, Sizes}
-use Rattle.plain_table.specs.Rows.{row, AreSafe}
-use Rattle.plain_table.specs.Sound.{CycleSound}
+use Rattle.plain_table.specs.Rows.{row}
 use Rattle.plain_table.specs.Words.{header_place, header_word}
 use Rattle.plain_table.specs.Shows.{Shows, IsHeader, is_black}
 use Rattle.plain_table.specs.WordLaws.{ScanWordsFollow, ShadedWordsStay}
@@ -59,18 +58,13 @@ Shows-scanned words s o (Some c) P is made shows =
     (λ m word apart was. (was.0, was.1 ∙ ap (header_word was.0) (sym (black-other s c o m apart)), λ black. was.2 (sym (black-other s c o m apart) ∙ black)))
     (ShownParts-Shows _ _ shows))
 
--- old objects are made
-old-made : (s : Table) (o : ℕ) (cycle : Option Cycle) → IfSome cycle (CycleSound s) → IsSomeAnd cycle (λ c. IsOld c o × (c.scans o ≡ false) × AreSafe s c o) → o < s.count
-old-made s o None h is = absurd is
-old-made s o (Some c) h is = h.traced.made o (inl is.0)
-
 pub ScanWordsFollow-row : ScanWordsFollow
-ScanWordsFollow-row words s e o h shows legal is =
+ScanWordsFollow-row words s e o made shows legal is =
     subst (λ a. (row s e.by a).allowed → Shows (slice_set words (header_place o) (header_word true true)) (row s e.by a).next) (sym is)
-    (λ allowed. Shows-scanned words s o s.cycle _ allowed (omega (arith, old-made s o s.cycle h.cycle allowed, h.objects.few)) shows) legal.0
+    (λ allowed. Shows-scanned words s o s.cycle _ allowed made shows) legal.0
 
 pub ShadedWordsStay-header : ShadedWordsStay
-ShadedWordsStay-header words s c o h shows is made =
+ShadedWordsStay-header words s c o shows is made =
     Shows-ShownParts _ _ (Shown-header o (header_word true (is_black s c o))
     (Changed-slice_set words (header_place o) (header_word true (is_black s c o)) (omega (arith, made, shows.whole))) made
     (subst (λ cycle. IsHeader s cycle o (header_word true (is_black s c o))) (sym is) (true, refl, λ black. refl))

@@ -8,15 +8,13 @@ use Rattle.plain_table.specs.declared.events.Field.{Field}
 use Rattle.plain_table.specs.Places.{put_at, put_pair}
 use Rattle.plain_table.specs.Table.{Table, Sizes}
 use Rattle.plain_table.specs.Rows.{row, IsSpotOf, object_in, with_linked}
-use Rattle.plain_table.specs.Sound.{IsSound}
 use Rattle.plain_table.specs.Words.{global_place, reference_place, object_word}
 use Rattle.plain_table.specs.Shows.{Shows}
-use Rattle.plain_table.specs.WordLaws.{spot_place, LinkWordsFollow}
+use Rattle.plain_table.specs.WordLaws.{spot_place, LinkWordsFollow, IsWithin}
 use Rattle.plain_table.proofs.PlaceReads.{read_at, read_pair}
 use Rattle.plain_table.proofs.WordPlaces.{header-apart-reference, reference-apart-field, reference_place-same, freelist_place-below}
 use Rattle.plain_table.proofs.ShownParts.{LowShown, HeapShown, Shown, ShownParts-Shows, Shows-ShownParts}
 use Rattle.plain_table.proofs.WordChanges.{Changed, Changed-slice_set, Changed-read, LowShown-kept, HeapShown-kept, SpacesShown-kept}
-use Rattle.plain_table.proofs.FieldWords.{Holds-below_most}
 
 module _ {words changed : List ℕ} (g : ℕ) (x : Option ℕ) (h : Changed words changed (global_place g) (object_word x)) where
   LowShown-global : {count area phase : ℕ} {globals : ℕ → Option ℕ} → LowShown words count area phase globals → LowShown changed count area phase (put_at globals g x)
@@ -61,12 +59,11 @@ module _ {words changed : List ℕ} (o k : ℕ) (x : Option ℕ) (few : k < 4) (
     entries = SpacesShown-kept h (omega (arith, made, few)) (λ p e. omega (arith, freelist_place-below p, e)) shown.entries;
   }
 
-Shows-link : (words : List ℕ) (s : Table) (b : ℕ) (spot : Spot) (x : Option ℕ) → IsSound s → Shows words s → IsSpotOf s b spot →
+Shows-link : (words : List ℕ) (s : Table) (b : ℕ) (spot : Spot) (x : Option ℕ) → IsWithin s spot → Shows words s → IsSpotOf s b spot →
     Shows (slice_set words (spot_place spot) (object_word x)) (with_linked s spot x)
 Shows-link words s b (Global g) x h shows few =
     Shows-ShownParts _ _ (Shown-global g x (Changed-slice_set words (global_place g) (object_word x) (omega (arith, few, shows.whole))) few (ShownParts-Shows _ _ shows))
-Shows-link words s b (Ref o k) x h shows holds =
-    let made : o < s.sizes.objects = Holds-below_most s b o h holds.0 in
+Shows-link words s b (Ref o k) x made shows holds =
     let few : k < 4 = holds.1 in
     Shows-ShownParts _ _ (Shown-reference o k x few (Changed-slice_set words (reference_place o k) (object_word x) (omega (arith, made, few, shows.whole))) made (ShownParts-Shows _ _ shows))
 

@@ -52,4 +52,4 @@ module _ (words : List ℕ) (s : Table) (shows : Shows words s) where
   WordsStay-row b _ said is wrong = absurd wrong
 
 pub WordsStay-all : WordsStay
-WordsStay-all words s e h shows legal quiet = WordsStay-row words s shows e.by e.act e.said legal.1 quiet
+WordsStay-all words s e shows legal quiet = WordsStay-row words s shows e.by e.act e.said legal.1 quiet

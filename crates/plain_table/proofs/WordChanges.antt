@@ -8,9 +8,9 @@ use Rattle.plain_table.specs.declared.events.Space.{Space}
 use Rattle.plain_table.specs.declared.events.Space.TheVariants.{External, Trusted}
 use Rattle.plain_table.specs.declared.events.Field.{Field}
 use Rattle.plain_table.specs.Table.{Table, Sizes}
-use Rattle.plain_table.specs.Sound.{IsSound}
 use Rattle.plain_table.specs.Words.{freelist_place, header_place, reference_place, field_place, entry_place}
 use Rattle.plain_table.specs.Shows.{entry_at}
+use Rattle.plain_table.specs.WordLaws.{HasSoundIndexes}
 use Rattle.plain_table.proofs.PlaceReads.{Read}
 use Rattle.plain_table.proofs.WordPlaces.{limit_in, field_place-from, field_place-below, entry_place-from}
 use Rattle.plain_table.proofs.ShownParts.{SpaceIs, LowShown, HeapShown, SpacesShown}
@@ -47,21 +47,21 @@ pub no_cell-id : (found : Option Cell) → option_map (λ (cell : Cell). cell.id
 no_cell-id None e = refl
 no_cell-id (Some c) e = absurd (cc)
 
-pub AreWithin-IsSound : (s : Table) → IsSound s → AreWithin s.sizes s.used s.cells (entry_at s)
-AreWithin-IsSound s h = record {
-  first = h.used.first;
+pub AreWithin-HasSoundIndexes : (s : Table) → HasSoundIndexes s → AreWithin s.sizes s.used s.cells (entry_at s)
+AreWithin-HasSoundIndexes s h = record {
+  first = h.first;
   below = below;
-  filled = λ p i cell is. h.used.cells p i (ap (λ found. is_some (option_map (λ (c : Cell). c.id) found)) is);
+  filled = λ p i cell is. h.cells p i (ap (λ found. is_some (option_map (λ (c : Cell). c.id) found)) is);
   entries = entries;
 }
   where
     below : (p : Space) (i : ℕ) → IsTrue (s.used p i) → i < limit_in s.sizes p
-    below External i is = h.used.below External i is
-    below Trusted i is = h.used.below Trusted i is
+    below External i is = h.below External i is
+    below Trusted i is = h.below Trusted i is
 
     entries : (p : Space) (i number : ℕ) → entry_at s p i ≡ Some number → IsTrue (s.used p i) × (i ≢ 0) × (s.cells p i ≡ None)
     entries External i number is =
-        let found = h.used.entries i (ap is_some is) in (found.0, found.1, no_cell-id (s.cells External i) found.2)
+        let found = h.entries i (ap is_some is) in (found.0, found.1, no_cell-id (s.cells External i) found.2)
     entries Trusted i number is = absurd (cc)
 
 -- words that agree on the places of a part show it alike

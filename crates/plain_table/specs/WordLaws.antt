@@ -1,6 +1,7 @@
--- Words for words: where a list of machine words shows a sound table, and an event is legal in it, the list with the one
--- word changed that the event writes shows the table behind the event. Words tell nothing of variables, claims, fresh
--- cells, tickets and bindings, so some events change no word, and shading an object is a change of words with no event.
+-- Words for words: where a list of machine words shows a table, and an event is legal in it, the list with the one word
+-- changed that the event writes shows the table behind the event. Words tell nothing of variables, claims, fresh cells,
+-- tickets and bindings, so some events change no word, and shading an object is a change of words with no event. What no
+-- word shows is a premise: that an object is within the limit, and that used indexes are sound.
 use Rattle.std.specs.Prelude.{◌≡◌, ◌≢◌, ℕ, ◌+◌, ◌*◌, ◌/◌, ◌%◌, ◌^◌, ◌<◌, ◌≤◌, nat_lt, true, false, if◌then◌else◌, List, slice_index, slice_set, Option, Some, None, IsTrue}
 use Rattle.plain_table.specs.declared.events.Act.{Act}
 use Rattle.plain_table.specs.declared.events.Act.TheVariants.{New, Drop, Get, Link, Take, Below, Abort, Put, Bind, Name, Look, Set, Swap, Forge, Publish, Mark, Evac, Scan}
@@ -15,11 +16,13 @@ use Rattle.plain_table.specs.declared.events.Field.TheVariants as field
 use Rattle.plain_table.specs.declared.reports.Reply.{Reply}
 use Rattle.plain_table.specs.declared.reports.Reply.TheVariants as reply
 use Rattle.plain_table.specs.Index.{index_of}
+use Rattle.plain_table.specs.Places.{object_of}
 use Rattle.plain_table.specs.Cycle.{Cycle}
 use Rattle.plain_table.specs.Table.{Table, limit_of, least_free}
+use Rattle.plain_table.specs.Finish.{id_at}
 use Rattle.plain_table.specs.Rows.{object_in}
 use Rattle.plain_table.specs.History.{IsLegal, next}
-use Rattle.plain_table.specs.Sound.{IsSound}
+use Rattle.plain_table.specs.Sound.{UsedSound, entries_in}
 use Rattle.plain_table.specs.Words.{area_place, count_place, freelist_place, global_place, header_place, reference_place, field_place, entry_place, object_word, cell_word, free_word, evacuation_word, freelist_word, next_free, area_word, header_word}
 use Rattle.plain_table.specs.Shows.{Shows, is_black}
 
@@ -38,7 +41,7 @@ WritesNothing _ said = ⊥
 -- behind them the same words show the next table
 abbrev pub WordsStay : Type 0
 WordsStay =
-    (words : List ℕ) (s : Table) (e : Event) → IsSound s → Shows words s → IsLegal s e → WritesNothing e.act e.said →
+    (words : List ℕ) (s : Table) (e : Event) → Shows words s → IsLegal s e → WritesNothing e.act e.said →
     Shows words (next s e)
 
 -- a bind that says ok and a forge write a word into a field
@@ -49,8 +52,12 @@ WritesField _ said f w = ⊥
 
 abbrev pub FieldWordsFollow : Type 0
 FieldWordsFollow =
-    (words : List ℕ) (s : Table) (e : Event) (f : Field) (w : ℕ) → IsSound s → Shows words s → IsLegal s e →
+    (words : List ℕ) (s : Table) (e : Event) (f : Field) (w : ℕ) → object_of f < s.sizes.objects → Shows words s → IsLegal s e →
     WritesField e.act e.said f w → Shows (slice_set words (field_place f) w) (next s e)
+
+-- used indexes are sound, as in each sound table
+abbrev pub HasSoundIndexes : Table → Type 0
+HasSoundIndexes s = UsedSound (limit_of s) s.used (id_at s) s.owed (entries_in s.cycle)
 
 -- a put, a store, an exchange, a publish and a mark write the word of the cell that stands at the index behind them
 abbrev pub WritesCell : Act → Space → ℕ → Type 0
@@ -63,14 +70,14 @@ WritesCell _ p i = ⊥
 
 abbrev pub CellWordsFollow : Type 0
 CellWordsFollow =
-    (words : List ℕ) (s : Table) (e : Event) (p : Space) (i : ℕ) (cell : Cell) → IsSound s → Shows words s → IsLegal s e →
+    (words : List ℕ) (s : Table) (e : Event) (p : Space) (i : ℕ) (cell : Cell) → HasSoundIndexes s → Shows words s → IsLegal s e →
     WritesCell e.act p i → (next s e).cells p i ≡ Some cell →
     Shows (slice_set words (entry_place s.sizes p i) (cell_word cell true)) (next s e)
 
 -- an evacuation entry writes the number of its field
 abbrev pub EvacuationWordsFollow : Type 0
 EvacuationWordsFollow =
-    (words : List ℕ) (s : Table) (e : Event) (i number : ℕ) → IsSound s → Shows words s → IsLegal s e →
+    (words : List ℕ) (s : Table) (e : Event) (i number : ℕ) → HasSoundIndexes s → Shows words s → IsLegal s e →
     e.act ≡ Evac i number → Shows (slice_set words (entry_place s.sizes External i) (evacuation_word number)) (next s e)
 
 -- a link writes the object, or nothing, into a global or a reference
@@ -78,33 +85,38 @@ abbrev pub spot_place : Spot → ℕ
 spot_place (Global g) = global_place g
 spot_place (Ref object k) = reference_place object k
 
+-- the object of a reference is within the limit
+abbrev pub IsWithin : Table → Spot → Type 0
+IsWithin s (Global g) = Unit {0}
+IsWithin s (Ref object k) = object < s.sizes.objects
+
 abbrev pub LinkWordsFollow : Type 0
 LinkWordsFollow =
-    (words : List ℕ) (s : Table) (e : Event) (spot : Spot) (var : Option ℕ) → IsSound s → Shows words s → IsLegal s e →
+    (words : List ℕ) (s : Table) (e : Event) (spot : Spot) (var : Option ℕ) → IsWithin s spot → Shows words s → IsLegal s e →
     e.act ≡ Link spot var → Shows (slice_set words (spot_place spot) (object_word (object_in s e.by var))) (next s e)
 
 -- a new object raises the count
 abbrev pub CountWordsFollow : Type 0
 CountWordsFollow =
-    (words : List ℕ) (s : Table) (e : Event) (var o : ℕ) → IsSound s → Shows words s → IsLegal s e →
+    (words : List ℕ) (s : Table) (e : Event) (var o : ℕ) → Shows words s → IsLegal s e →
     e.act ≡ New var → e.said ≡ reply.Obj o → Shows (slice_set words count_place (s.count + 1)) (next s e)
 
 -- an abort writes the area word
 abbrev pub AreaWordsFollow : Type 0
 AreaWordsFollow =
-    (words : List ℕ) (s : Table) (e : Event) → IsSound s → Shows words s → IsLegal s e →
+    (words : List ℕ) (s : Table) (e : Event) → Shows words s → IsLegal s e →
     e.act ≡ Abort → Shows (slice_set words area_place (area_word (next s e).cycle)) (next s e)
 
 -- a scan makes its object's header black, and its shaded bit stands in it
 abbrev pub ScanWordsFollow : Type 0
 ScanWordsFollow =
-    (words : List ℕ) (s : Table) (e : Event) (o : ℕ) → IsSound s → Shows words s → IsLegal s e →
+    (words : List ℕ) (s : Table) (e : Event) (o : ℕ) → o < s.sizes.objects → Shows words s → IsLegal s e →
     e.act ≡ Scan o → Shows (slice_set words (header_place o) (header_word true true)) (next s e)
 
 -- where an object is shaded in a cycle, the words show the table that they showed
 abbrev pub ShadedWordsStay : Type 0
 ShadedWordsStay =
-    (words : List ℕ) (s : Table) (c : Cycle) (o : ℕ) → IsSound s → Shows words s → s.cycle ≡ Some c → o < s.sizes.objects →
+    (words : List ℕ) (s : Table) (c : Cycle) (o : ℕ) → Shows words s → s.cycle ≡ Some c → o < s.sizes.objects →
     Shows (slice_set words (header_place o) (header_word true (is_black s c o))) s
 
 -- a take of an index, and one below a start, write the freelist word of their space
@@ -117,7 +129,7 @@ TakesFrom _ p = ⊥
 -- less. The indexes of the space have to fit the 32 bits of a link, as those of every table in range do
 abbrev pub FreelistWordsFollow : Type 0
 FreelistWordsFollow =
-    (words : List ℕ) (s : Table) (e : Event) (p : Space) (i link len : ℕ) → IsSound s → Shows words s → limit_of s p < 2 ^ 32 →
+    (words : List ℕ) (s : Table) (e : Event) (p : Space) (i link len : ℕ) → IsTrue (s.used p 0) → Shows words s → limit_of s p < 2 ^ 32 →
     IsLegal s e → TakesFrom e.act p → e.said ≡ reply.Index i →
     slice_index words (freelist_place p) / 2 ^ 32 ≡ len + 1 → slice_index words (entry_place s.sizes p i) ≡ free_word link →
     Shows (slice_set words (freelist_place p) (freelist_word link len)) (next s e)
@@ -136,5 +148,5 @@ pub record FreelistTells (s : Table) (p : Space) (entry : ℕ → ℕ) (head len
 
 abbrev pub FreelistsTell : Type 0
 FreelistsTell =
-    (words : List ℕ) (s : Table) (p : Space) → IsSound s → Shows words s → limit_of s p < 2 ^ 32 →
+    (words : List ℕ) (s : Table) (p : Space) → IsTrue (s.used p 0) → Shows words s → limit_of s p < 2 ^ 32 →
     (committed : ℕ) × FreelistTells s p (λ i. slice_index words (entry_place s.sizes p i)) (slice_index words (freelist_place p) % 2 ^ 32) (slice_index words (freelist_place p) / 2 ^ 32) committed

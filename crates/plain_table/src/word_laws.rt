@@ -1,5 +1,5 @@
-// Words for words: where a list of machine words shows a sound table, which one changed word shows the table behind an
-// event. Each law is a function that does nothing and whose contract is the law: a caller may cite it.
+// Words for words: where a list of machine words shows a table, which one changed word shows the table behind an event.
+// Each law is a function that does nothing and whose contract is the law: a caller may cite it.
 ghost use Rattle.plain_table.specs.WordLaws.{AreaWordsFollow, CellWordsFollow, CountWordsFollow, EvacuationWordsFollow, FieldWordsFollow, FreelistWordsFollow, FreelistsTell, LinkWordsFollow, ScanWordsFollow, ShadedWordsStay, WordsStay};
 
 /// Behind a bind that says ok, and behind a forge, the list with the word at the field's place shows the table.
