@@ -1,7 +1,7 @@
 // Worked histories of one mutator: its calls with their replies, cycles whose scans are all made at the pause, and what
 // can be seen behind them.
 use super::made::Made::*;
-use super::made::{Made, TAG};
+use super::made::{AREA, Made, TAG};
 use crate::Reply::{Fault, Full, HeapFull, Nothing, Null, Obj, Taken, Value};
 use crate::Space::{External, Trusted};
 use crate::Spot::{Global, Ref};
@@ -251,10 +251,10 @@ const A_FETCHED_OBJECT_KEEPS_ITS_CELL: Parts = &[
 ];
 
 const A_TRUSTED_CELL_IS_SEEN_ONCE_IT_IS_PUBLISHED: Parts = &[
-    &[New(0, 0), TNew(0, 1, TAG), Start, TPub(0, 1)],
+    &[New(0, 0), TNew(0, 1, TAG, 0xc0), Start, TPub(0, 1)],
     &[MarkTrusted(1), Scan(0), Finish, TLoad(0, 1, Value(0xc0))],
     &[Drop(0), New(1, 1), Start, Scan(1), Finish],
-    &[TNew(1, 1, 0x17), Raw(Trusted, 0x1_0000, 0x17, Fault)],
+    &[TNew(1, 1, 0x17, 0xc1), Raw(Trusted, 0x1_0000, 0x17, Fault)],
     &[Raw(Trusted, 0xffff, 0x17, Null)],
 ];
 
@@ -265,16 +265,22 @@ pub const SHARED: Act = Act::Bind {
 };
 
 const A_TRUSTED_CELL_IS_SHARED_IN_THE_CYCLE: Parts = &[
-    &[New(0, 0), TNew(0, 1, TAG), New(1, 1), Start, TPub(0, 1)],
+    &[
+        New(0, 0),
+        TNew(0, 1, TAG, 0xc0),
+        New(1, 1),
+        Start,
+        TPub(0, 1),
+    ],
     &[TLoad(0, 1, Value(0xc0)), MarkTrusted(1)],
     &[One(0, SHARED, Reply::Ok), Drop(0), Scan(1), Finish],
     &[TLoad(1, 1, Value(0xc0))],
 ];
 
 const A_TICKET_WHOSE_CELL_IS_FREED_IS_GONE: Parts = &[
-    &[New(0, 0), TNew(0, 1, TAG), Drop(0), Start, Finish],
-    &[New(0, 1), TNew(1, 1, TAG), TPub(1, 1)],
-    &[TLoad(1, 1, Value(0xc0))],
+    &[New(0, 0), TNew(0, 1, TAG, 0xc0), Drop(0), Start, Finish],
+    &[New(0, 1), TNew(1, 1, TAG, 0xc1), TPub(1, 1)],
+    &[TLoad(1, 1, Value(0xc1))],
 ];
 
 const NO_OBJECT_IS_MADE_PAST_THE_LIMIT: Parts = &[&[
@@ -283,6 +289,86 @@ const NO_OBJECT_IS_MADE_PAST_THE_LIMIT: Parts = &[&[
 ]];
 
 const A_DROPPED_OBJECT_IS_NOT_SCANNED: Parts = &[&[New(0, 0), Drop(0), Start, Finish]];
+
+const A_FORGED_OWN_WORD_IS_STILL_VISITED: Parts = &[
+    SEVEN_CELLS,
+    MOST_DIE,
+    TWO_KEPT,
+    &[Forge(6, 7), Compact],
+    ONE_MOVES,
+    &[Finish, Name(6, 2), Load(6, 2, Value(0xc7))],
+];
+
+pub const A_WORD_OF_A_FREE_ENTRY_BECOMES_THE_TARGET: Parts = &[
+    SEVEN_CELLS,
+    MOST_DIE,
+    TWO_KEPT,
+    &[Forge(1, 2), Load(1, 2, Fault), Compact, Load(1, 2, Fault)],
+    ONE_MOVES,
+    &[Finish, Load(1, 2, Value(0xc7))],
+];
+
+pub const TWO_WORDS_ARE_EXCHANGED: Parts = &[
+    SEVEN_CELLS,
+    MOST_DIE,
+    TWO_KEPT,
+    &[Forge(0, 7), Forge(6, 1), Compact],
+    &[Move(0, 7, 2), Scan(0), Mark(1), Scan(3), Finish],
+    &[Load(0, 2, Value(0xc7)), Load(6, 1, Value(0xc1)), Name(0, 2)],
+];
+
+const A_RELEASED_INDEX_FAULTS: Parts = &[
+    SEVEN_CELLS,
+    MOST_DIE,
+    TWO_KEPT,
+    &[Compact],
+    ONE_MOVES,
+    &[Finish, Look(7, Fault), Look(8, Fault), Look(7, Fault)],
+];
+
+pub const A_FIELD_THAT_IS_FORGED_AWAY_MOVES_NOTHING: Parts = &[
+    SEVEN_CELLS,
+    MOST_DIE,
+    TWO_KEPT,
+    &[Compact],
+    ONE_MOVES,
+    &[Forge(6, 0), Finish, Look(7, Fault), Look(2, Fault)],
+    &[Look(1, Value(0xc1)), Take(2)],
+];
+
+/// The number of the first marker.
+const MARKER: u32 = 8;
+
+const ROOTED: Act = Act::Link {
+    spot: Global { g: 0 },
+    var: Some(0),
+};
+
+const SCANNED: Act = Act::Scan { object: 0 };
+
+pub const A_MARKER_SCANS_THE_ROOT: Parts = &[
+    &[New(0, 0), One(0, ROOTED, Reply::Ok), Start],
+    &[One(MARKER, SCANNED, Reply::Ok), New(1, 1)],
+    &[Name(2, 0), Name(3, 0), Finish],
+];
+
+const MARKED_AT_4: Act = Act::Mark {
+    space: External,
+    index: 4,
+};
+
+pub const A_MARKER_FINDS_NO_ROOM: Parts = &[
+    FOUR_CELLS,
+    &[
+        Compact,
+        One(MARKER, Act::Below { start: AREA }, Reply::NoRoom),
+    ],
+    &[One(MARKER, Act::Abort, Reply::Ok)],
+    &[One(MARKER, MARKED_AT_4, Reply::Ok)],
+    &[One(MARKER, MARKED_AT_4, Reply::Ok), Forge(0, 5)],
+];
+
+const FOUR_CELLS_TAKE_THE_LEAST_INDEXES: Parts = &[FOUR_CELLS, &[Take(5)]];
 
 /// Each with the external segments, of four entries, and the objects that its table has.
 pub const LEGAL: &[(u32, u32, Parts)] = &[
@@ -304,6 +390,14 @@ pub const LEGAL: &[(u32, u32, Parts)] = &[
     (2, 4, A_FIELD_THAT_IS_FORGED_IN_THE_CYCLE_IS_VISITED),
     (2, 4, A_FIELD_THAT_IS_FORGED_BEHIND_ITS_SCAN_IS_LEFT),
     (2, 4, A_DEAD_EVACUEE_IS_FREED),
+    (2, 4, A_FORGED_OWN_WORD_IS_STILL_VISITED),
+    (2, 4, A_WORD_OF_A_FREE_ENTRY_BECOMES_THE_TARGET),
+    (2, 4, TWO_WORDS_ARE_EXCHANGED),
+    (2, 4, A_RELEASED_INDEX_FAULTS),
+    (2, 4, A_FIELD_THAT_IS_FORGED_AWAY_MOVES_NOTHING),
+    (1, 2, A_MARKER_SCANS_THE_ROOT),
+    (2, 2, A_MARKER_FINDS_NO_ROOM),
+    (2, 2, FOUR_CELLS_TAKE_THE_LEAST_INDEXES),
     (2, 2, AN_ABORT_LEAVES_EVERY_FIELD),
     (2, 4, AN_ABORT_FREES_THE_ENTRY_BEFORE_IT),
     (2, 2, A_NEW_CELL_IN_THE_AREA_ABORTS_FIRST),

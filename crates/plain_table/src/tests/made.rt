@@ -34,8 +34,9 @@ pub enum Made {
     Store(u32, u64, u64),
     Swap(u32, u64, u64),
     Forge(u32, u32),
-    /// The trusted field of the object gets a new cell at the index with the tag, is published, and is loaded.
-    TNew(u32, u32, u8),
+    /// The trusted field of the object gets a new cell at the index with the tag and the value, is published, and is
+    /// loaded.
+    TNew(u32, u32, u8, u64),
     TPub(u32, u32),
     TLoad(u32, u32, Reply),
     /// A cycle starts without an area, or with one.
@@ -102,9 +103,9 @@ fn append_one(events: &mut Vec<Event>, made: Made) -> Result<(), Fail> {
             let word = word_of(index);
             push(events, 0, Act::Forge { number, word }, Reply::Ok)
         }
-        Made::TNew(number, index, tag) => {
+        Made::TNew(number, index, tag, value) => {
             take(events, Space::Trusted, index)?;
-            put(events, Space::Trusted, index, tag, 0xc0)?;
+            put(events, Space::Trusted, index, tag, value)?;
             bind(events, Field::Trusted { number }, index, Reply::Ok)
         }
         Made::TPub(number, index) => {

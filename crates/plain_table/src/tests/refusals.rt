@@ -85,7 +85,7 @@ pub const REFUSALS: &[Refusals] = &[
     Refusals {
         ext: 1,
         objects: 2,
-        before: &[&[New(0, 0), TNew(0, 1, TAG)]],
+        before: &[&[New(0, 0), TNew(0, 1, TAG, 0xc0)]],
         wrong: &[
             &[One(1, PUBLISH, Ok)], // no ticket
             &[TPub(0, 1), One(0, PUBLISH, Ok)], // no ticket any more
@@ -161,5 +161,38 @@ pub const REFUSALS: &[Refusals] = &[
         wrong: &[
             &[Name(3, 2)], // the compaction was aborted
         ],
+    },
+    Refusals {
+        ext: 2,
+        objects: 4,
+        before: A_WORD_OF_A_FREE_ENTRY_BECOMES_THE_TARGET,
+        wrong: &[&[Load(1, 2, Fault)]], // the moved cell stands there
+    },
+    Refusals {
+        ext: 2,
+        objects: 4,
+        before: TWO_WORDS_ARE_EXCHANGED,
+        wrong: &[
+            &[Name(0, 7)], // the field is rewritten
+            &[Name(6, 2)], // its cell stays
+        ],
+    },
+    Refusals {
+        ext: 2,
+        objects: 4,
+        before: A_FIELD_THAT_IS_FORGED_AWAY_MOVES_NOTHING,
+        wrong: &[&[Look(2, Value(0xc7))]], // no field named the cell any more
+    },
+    Refusals {
+        ext: 2,
+        objects: 2,
+        before: A_MARKER_FINDS_NO_ROOM,
+        wrong: &[&[Mark(5)]], // no cell stands there
+    },
+    Refusals {
+        ext: 1,
+        objects: 2,
+        before: A_MARKER_SCANS_THE_ROOT,
+        wrong: &[&[Scan(0)]], // the cycle is over
     },
 ];
