@@ -159,13 +159,32 @@ fn limits(rt: &impl Abort, ext: u32, objects: u32) -> Limits
     }
 }
 
+/// Another reply than the one that was given.
+fn other(said: Reply) -> Reply {
+    match said {
+        Reply::Obj(object) => Reply::Obj(object ^ 1),
+        Reply::Word(word) => Reply::Word(word ^ 0x1_0000),
+        Reply::Value(value) => Reply::Value(value ^ 1),
+        Reply::Taken(word) => Reply::Taken(word ^ 0x1_0000),
+        Reply::Index(index) => Reply::Index(index ^ 1),
+        Reply::Ok => Reply::Nothing,
+        _ => Reply::Ok,
+    }
+}
+
 #[test]
-fn the_worked_histories_are_legal(rt: HostRuntime) -> Result<(), Fail> {
+fn the_worked_histories_are_legal_with_no_other_reply(rt: HostRuntime) -> Result<(), Fail> {
     for (ext, objects, parts) in LEGAL {
         let limits = limits(&rt, *ext, *objects);
         let events = events_of(rt.alloc(), parts)?;
         let mut state = State::start(rt.alloc(), limits)?;
         for event in &events {
+            let said = other(event.said);
+            let wrong = Event { said, ..*event };
+            assert!(rt;
+                !step(rt.alloc(), &mut state, &wrong)?,
+                "{wrong:?} of {events:?}"
+            );
             assert!(rt;
                 step(rt.alloc(), &mut state, event)?,
                 "{event:?} of {events:?}"
