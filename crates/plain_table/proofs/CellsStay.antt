@@ -66,7 +66,7 @@ CellsSteady-change s e t p i change h values shown cells cycle = record {
   shown = λ q j c at. elim (read q j c at) [
     | inl r ↦ elim (shown c) [
       | inl k ↦ inl (IsSomeAnd-by (t.cells q j) (change c) (λ d. d.shown ≡ c.shown) r.2 k)
-      | inr k ↦ inr (k.1 ∙ ap Publish r.1)
+      | inr k ↦ inr (sym r.0 ∙ k.0, k.1 ∙ ap Publish r.1)
     ]
     | inr r ↦ inl (IsSomeAnd-by (t.cells q j) c (λ d. d.shown ≡ c.shown) r refl)
   ];

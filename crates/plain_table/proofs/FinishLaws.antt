@@ -1,5 +1,5 @@
--- Two laws of the finish: it can't be refused once each reachable object was scanned or is born in the cycle, and each
--- cell of the area moves to its target.
+-- Laws of the finish: it can't be refused once each reachable object was scanned or is born in the cycle, each index
+-- behind it holds the cell whose place it is, and each cell of the area moves to its target.
 use Rattle.std.proofs.Common.{◌≡◌, ℕ, ◌<◌, Bool, true, false, Option, Some, None, refl, sym, ◌∙◌, ap, subst, inl, inr, arith, leb-false}
 use Rattle.std.specs.Prelude.{if◌then◌else◌, is_some, IsTrue}
 use Rattle.std.proofs.lemmas.Bool.{cases_Bool, both_ways, cond-true, or_left, or_right}
@@ -14,10 +14,10 @@ use Rattle.plain_table.specs.Table.{Table}
 use Rattle.plain_table.specs.Finish.{IsKept, place, swept}
 use Rattle.plain_table.specs.Rows.{IsPlaced}
 use Rattle.plain_table.specs.Sound.{IsSound}
-use Rattle.plain_table.specs.Laws.{CellsMoveToTheirTarget, FinishesCannotBeRefused}
+use Rattle.plain_table.specs.Laws.{CellsMoveToTheirTarget, CellsStandAtTheirPlace, FinishesCannotBeRefused}
 use Rattle.plain_table.proofs.Options.{IsSome-value, IsSomeAnd-is}
 use Rattle.plain_table.proofs.CycleParts.{CycleSound-is}
-use Rattle.plain_table.proofs.FinishMoves.{named, is_from-some, place-inside, place-outside, target-some, place-is, place-target, target-is, swept-from, swept-place}
+use Rattle.plain_table.proofs.FinishMoves.{named, is_from-some, place-inside, place-outside, target-some, place-is, place-source, place-target, target-is, swept-from, swept-place}
 
 -- the start of the area is where the cells move from
 moves_from-start : (aborted : Bool) (start : Option ℕ) (first : ℕ) → (if aborted then None else start) ≡ Some first → start ≡ Some first
@@ -74,6 +74,15 @@ place-below s c start moves i e at = elim (place-is c s.words External i e at) [
       let same : t.start ≡ start = same_Some t.start start (sym t.moves ∙ moves) in
       omega (arith, t.below)
 ]
+
+pub cells-placed : CellsStandAtTheirPlace
+cells-placed s c p h is = (
+  λ e cell. (
+    λ stands. let came = swept-from s c p e cell stands in (came.index, came.place_is, came.cell_is),
+    λ (from : (i : ℕ) × (place c s.words p i ≡ Some e) × (s.cells p i ≡ Some cell)). swept-place s c h is p from.0 e from.1 ∙ from.2,
+  ),
+  λ i j e at also. same_Some i j (sym (place-source s c h is p i e at) ∙ place-source s c h is p j e also),
+)
 
 pub cells-moved : CellsMoveToTheirTarget
 cells-moved s c start h is can moves = (

@@ -1,10 +1,11 @@
 -- The laws of the model, each a statement over the definitions alone: which tables are sound, what events keep, which
 -- cells fields read, where cells go at a finish, and that a finish can't be refused. Each is the contract of a function
 -- in `src/laws.rt`.
-use Rattle.std.specs.Prelude.{◌≡◌, ◌⊎◌, ℕ, ◌<◌, List, Some, IsTrue, IsSome, IsSomeAnd}
+use Rattle.std.specs.Prelude.{◌≡◌, ◌⊎◌, ◌↔◌, ℕ, ◌<◌, List, Some, IsTrue, IsSome, IsSomeAnd}
 use Rattle.plain_table.specs.declared.scripts.Limits.{Limits}
 use Rattle.plain_table.specs.declared.scripts.Policy.{Policy}
 use Rattle.plain_table.specs.declared.events.Act.TheVariants.{New, Take, Below, Look}
+use Rattle.plain_table.specs.declared.events.Cell.{Cell}
 use Rattle.plain_table.specs.declared.events.Event.{Event}
 use Rattle.plain_table.specs.declared.events.Space.{Space}
 use Rattle.plain_table.specs.declared.events.Space.TheVariants.{External}
@@ -77,6 +78,14 @@ CellsMoveToTheirTarget =
     (s : Table) (c : Cycle) (start : ℕ) → IsSound s → s.cycle ≡ Some c → CanFinish s c → moves_from c ≡ Some start →
     ((e : ℕ) → IsSome ((finished s c).cells External e) → e < start)
     × ((i e : ℕ) → target c s.words i ≡ Some e → (finished s c).cells External e ≡ s.cells External i)
+
+-- places: behind a finish an index holds just the cell whose place it is, and no two cells have one place
+abbrev pub CellsStandAtTheirPlace : Type 0
+CellsStandAtTheirPlace =
+    (s : Table) (c : Cycle) (p : Space) → IsSound s → s.cycle ≡ Some c →
+    ((e : ℕ) (cell : Cell) →
+    ((finished s c).cells p e ≡ Some cell) ↔ ((i : ℕ) × (place c s.words p i ≡ Some e) × (s.cells p i ≡ Some cell)))
+    × ((i j e : ℕ) → place c s.words p i ≡ Some e → place c s.words p j ≡ Some e → i ≡ j)
 
 -- reach: an object that can be reached behind an event could be reached before it, or was made by it
 abbrev pub ReachOnlyGrowsByNew : Type 0

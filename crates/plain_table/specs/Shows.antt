@@ -129,7 +129,7 @@ pub record IsFreshSpace (sizes : Sizes) (p : Space) (limit : ℕ) (words : List 
 -- a fresh image: no object, no cell, and one committed segment in each space
 pub record IsFreshImage (image : Image) : Type 0 where
   pub whole : length image.words ≡ words_in_all image.sizes
-  pub zeros : (i : ℕ) → i < header_place image.sizes.objects → i ≢ 0 → i ≢ 2 → slice_index image.words i ≡ 0
+  pub zeros : (i : ℕ) → i < header_place image.sizes.objects → i ≢ freelist_place External → i ≢ freelist_place Trusted → slice_index image.words i ≡ 0
   pub external : IsFreshSpace image.sizes External (image.sizes.seg * image.sizes.ext) image.words
   pub trusted : IsFreshSpace image.sizes Trusted (image.sizes.seg * image.sizes.tru) image.words
   pub variables : (length image.variables ≡ 128) × ((i : ℕ) → slice_index image.variables i ≡ 0)

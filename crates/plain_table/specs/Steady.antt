@@ -30,7 +30,7 @@ pub record CellsSteady (s : Table) (e : Event) (t : Table) : Type 0 where
   pub made : (p : Space) (i : ℕ) → s.cells p i ≡ None → IsSome (t.cells p i) →
       (tag : ℕ) × (value : ℕ) × (e.act ≡ Put p i tag value)
   pub shown : (p : Space) (i : ℕ) (c : Cell) → s.cells p i ≡ Some c →
-      IsSomeAnd (t.cells p i) (λ d. d.shown ≡ c.shown) ⊎ (e.act ≡ Publish i)
+      IsSomeAnd (t.cells p i) (λ d. d.shown ≡ c.shown) ⊎ ((p ≡ Trusted) × (e.act ≡ Publish i))
   pub marked : (p : Space) (i : ℕ) (c : Cell) → s.cells p i ≡ Some c →
       (t.cells p i ≡ Some c) ⊎ (t.cycle ≡ None) ⊎ InCycle t (λ d. IsTrue (d.marks p i))
 

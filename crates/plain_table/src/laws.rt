@@ -2,6 +2,7 @@
 // `specs/Laws.antt` over the definitions alone: a caller may cite it.
 ghost use Rattle.plain_table.specs.Laws.{
   CellsMoveToTheirTarget,
+  CellsStandAtTheirPlace,
   EventsAreSteady,
   EventsKeepSoundness,
   FinishesArePrecise,
@@ -60,6 +61,11 @@ pub fn finishes_are_precise()
 /// at its target, with its id, tag and value.
 pub fn cells_move_to_their_target()
     ensures { CellsMoveToTheirTarget }
+{}
+
+/// Behind a finish an index holds just the cell whose place it is, and no two cells have one place.
+pub fn cells_stand_at_their_place()
+    ensures { CellsStandAtTheirPlace }
 {}
 
 /// An object that can be reached behind an event could be reached before it, or was made by it.

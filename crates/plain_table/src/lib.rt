@@ -31,10 +31,10 @@ mod word_laws;
 pub use area::area_start;
 pub use events::{Act, Cell, Event, Field, Space, Spot};
 pub use laws::{
-    cells_move_to_their_target, events_are_steady, events_keep_soundness, finishes_are_precise,
-    finishes_cannot_be_refused, fresh_images_show_the_opening, histories_are_sound,
-    holders_keep_their_index, holders_read_their_own, openings_are_sound, reach_only_grows_by_new,
-    values_were_stored,
+    cells_move_to_their_target, cells_stand_at_their_place, events_are_steady,
+    events_keep_soundness, finishes_are_precise, finishes_cannot_be_refused,
+    fresh_images_show_the_opening, histories_are_sound, holders_keep_their_index,
+    holders_read_their_own, openings_are_sound, reach_only_grows_by_new, values_were_stored,
 };
 pub use replays::replay;
 pub use reports::{Compaction, MeetReport, Outcome, PhaseReport, Reply, SweepReport};
