@@ -1,8 +1,10 @@
--- Laws of the finish: it can't be refused once each reachable object was scanned or is born in the cycle, each index
--- behind it holds the cell whose place it is, and each cell of the area moves to its target.
-use Rattle.std.proofs.Common.{◌≡◌, ℕ, ◌<◌, Bool, true, false, Option, Some, None, refl, sym, ◌∙◌, ap, subst, inl, inr, arith, leb-false}
+-- Laws of the finish: it can't be refused once each reachable object was scanned or is born in the cycle, a target is the
+-- greatest of its entries, each index behind it holds the cell whose place it is, and cells of the area move to their
+-- targets.
+use Rattle.std.proofs.Common.{◌≡◌, ℕ, ◌<◌, ◌≤◌, ◌==◌, Bool, true, false, Option, Some, None, refl, sym, ◌∙◌, ap, subst, inl, inr, arith, leb-false, eq-eqb}
 use Rattle.std.specs.Prelude.{if◌then◌else◌, is_some, IsTrue}
-use Rattle.std.proofs.lemmas.Bool.{cases_Bool, both_ways, cond-true, or_left, or_right}
+use Rattle.std.specs.Option.{option_map_or}
+use Rattle.std.proofs.lemmas.Bool.{cases_Bool, cases_lt, both_ways, cond-true, or_left, or_right}
 use Rattle.std.proofs.lemmas.Option.{same_Some}
 use Rattle.plain_table.specs.declared.events.Space.TheVariants.{External, Trusted}
 use Rattle.plain_table.specs.declared.events.Field.{Field}
@@ -11,10 +13,10 @@ use Rattle.plain_table.specs.Index.{index_of}
 use Rattle.plain_table.specs.Places.{space_of, object_of}
 use Rattle.plain_table.specs.Cycle.{Cycle, is_from, moves_from}
 use Rattle.plain_table.specs.Table.{Table}
-use Rattle.plain_table.specs.Finish.{IsKept, place, swept}
+use Rattle.plain_table.specs.Finish.{IsKept, is_entry_for, target, place, swept}
 use Rattle.plain_table.specs.Rows.{IsPlaced}
 use Rattle.plain_table.specs.Sound.{IsSound}
-use Rattle.plain_table.specs.Laws.{CellsMoveToTheirTarget, CellsStandAtTheirPlace, FinishesCannotBeRefused}
+use Rattle.plain_table.specs.Laws.{CellsMoveToTheirTarget, CellsStandAtTheirPlace, FinishesCannotBeRefused, IsEntryFor, TargetsAreTheGreatest}
 use Rattle.plain_table.proofs.Options.{IsSome-value, IsSomeAnd-is}
 use Rattle.plain_table.proofs.CycleParts.{CycleSound-is}
 use Rattle.plain_table.proofs.FinishMoves.{named, is_from-some, place-inside, place-outside, target-some, place-is, place-source, place-target, target-is, swept-from, swept-place}
@@ -74,6 +76,39 @@ place-below s c start moves i e at = elim (place-is c s.words External i e at) [
       let same : t.start ≡ start = same_Some t.start start (sym t.moves ∙ moves) in
       omega (arith, t.below)
 ]
+
+-- the target of an index is the greatest of the entries for it
+module _ (c : Cycle) (words : Field → ℕ) where
+  IsEntryFor-target : (i e : ℕ) → target c words i ≡ Some e → IsEntryFor c words i e
+  IsEntryFor-target i e is = let t = target-is c words i e is in record {
+    area = (t.start, t.moves, t.above, t.below);
+    marked = t.marked;
+    entry = (t.number, t.entry, t.names);
+  }
+
+  IsEntryFor-le : (i e d : ℕ) → target c words i ≡ Some e → IsEntryFor c words i d → d ≤ e
+  IsEntryFor-le i e d is for =
+      let t = target-is c words i e is in
+      let same : for.area.0 ≡ t.start = same_Some for.area.0 t.start (sym for.area.1 ∙ t.moves) in
+      let member : is_entry_for c.evac words i d ≡ true =
+      ap (λ (o : Option ℕ). option_map_or (λ number. named words number == i) o false) for.entry.1
+      ∙ eq-eqb (named words for.entry.0) i for.entry.2 in
+      elim (cases_lt e d) [
+        | inl over ↦ absurd (both_ways (is_entry_for c.evac words i d) (t.greatest d over (omega (arith, same, for.area.3))) member)
+        | inr within ↦ within
+      ]
+
+pub targets-greatest : TargetsAreTheGreatest
+targets-greatest c words i e = (
+  λ is. (IsEntryFor-target c words i e is, λ d for. IsEntryFor-le c words i e d is for),
+  λ (for : IsEntryFor c words i e × ((d : ℕ) → IsEntryFor c words i d → d ≤ e)).
+      let some = target-some c words for.0.area.0 for.0.entry.0 i e for.0.area.1 for.0.area.2 for.0.marked for.0.area.3 for.0.entry.1 for.0.entry.2 in
+      let found = IsSome-value (target c words i) some in
+      let over : found.0 ≤ e = for.1 found.0 (IsEntryFor-target c words i found.0 found.1) in
+      let under : e ≤ found.0 = IsEntryFor-le c words i found.0 e found.1 for.0 in
+      let same : found.0 ≡ e = omega (arith, over, under) in
+      found.1 ∙ ap Some same,
+)
 
 pub cells-placed : CellsStandAtTheirPlace
 cells-placed s c p h is = (

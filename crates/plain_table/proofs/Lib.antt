@@ -5,6 +5,7 @@ pub mod Options
 pub mod Branches
 pub mod LeastFree
 pub mod FreeReads
+pub mod TakesFind
 pub mod IdsAt
 pub mod ClaimReads
 pub mod CallsMade
@@ -49,6 +50,7 @@ pub mod FinishLaws
 pub mod FinishSound
 pub mod Soundness
 pub mod HoldersUsed
+pub mod HoldersLive
 pub mod CellsStay
 pub mod CyclesStay
 pub mod OthersStay

@@ -1,21 +1,22 @@
 -- The laws of the model, each a statement over the definitions alone: which tables are sound, what events keep, which
--- cells fields read, where cells go at a finish, and that a finish can't be refused. Each is the contract of a function
--- in `src/laws.rt`.
-use Rattle.std.specs.Prelude.{◌≡◌, ◌⊎◌, ◌↔◌, ℕ, ◌<◌, List, Some, IsTrue, IsSome, IsSomeAnd}
+-- cells fields read, what a take finds, where cells go at a finish, and that a finish can't be refused. Each is the
+-- contract of a function in `src/laws.rt`.
+use Rattle.std.specs.Prelude.{◌≡◌, ◌⊎◌, ◌↔◌, ℕ, ◌<◌, ◌≤◌, false, List, Some, None, IsTrue, IsSome, IsSomeAnd}
 use Rattle.plain_table.specs.declared.scripts.Limits.{Limits}
 use Rattle.plain_table.specs.declared.scripts.Policy.{Policy}
-use Rattle.plain_table.specs.declared.events.Act.TheVariants.{New, Take, Below, Look}
+use Rattle.plain_table.specs.declared.events.Act.TheVariants.{New, Take, Below, Look, Forge}
 use Rattle.plain_table.specs.declared.events.Cell.{Cell}
 use Rattle.plain_table.specs.declared.events.Event.{Event}
 use Rattle.plain_table.specs.declared.events.Space.{Space}
 use Rattle.plain_table.specs.declared.events.Space.TheVariants.{External}
 use Rattle.plain_table.specs.declared.events.Field.{Field}
+use Rattle.plain_table.specs.declared.events.Field.TheVariants as field
 use Rattle.plain_table.specs.declared.reports.Reply.TheVariants as reply
 use Rattle.plain_table.specs.Ranges.{IsInRange}
 use Rattle.plain_table.specs.Index.{index_of}
-use Rattle.plain_table.specs.Places.{space_of}
+use Rattle.plain_table.specs.Places.{space_of, object_of}
 use Rattle.plain_table.specs.Cycle.{Cycle, moves_from}
-use Rattle.plain_table.specs.Table.{Table, opening}
+use Rattle.plain_table.specs.Table.{Table, opening, limit_of, least_free}
 use Rattle.plain_table.specs.Finish.{IsReachable, CanFinish, started, finished, place, target}
 use Rattle.plain_table.specs.Holders.{IsLiveHolder}
 use Rattle.plain_table.specs.History.{IsLegal, IsLegalHistory, next, after}
@@ -56,6 +57,12 @@ HoldersReadTheirOwn =
     IsSomeAnd ((after (opening limits) es).cells (space_of f) (index_of ((after (opening limits) es).words f))) (λ c.
     (c.id ≡ id) × IsTrue c.shown × (stored_behind (opening limits) es nothing_stored id ≡ Some (c.tag, c.value)))
 
+-- a live holder stays one, until its object can't be reached any more or its field is forged
+abbrev pub HoldersStayLive : Type 0
+HoldersStayLive =
+    (s : Table) (e : Event) (f : Field) (id : ℕ) → IsSound s → IsLegal s e → IsLiveHolder s f id → IsReachable (next s e) (object_of f) →
+    IsLiveHolder (next s e) f id ⊎ ((number : ℕ) × (w : ℕ) × (f ≡ field.External number) × (e.act ≡ Forge number w))
+
 -- no second use: no take answers the index of a live holder
 abbrev pub HoldersKeepTheirIndex : Type 0
 HoldersKeepTheirIndex =
@@ -70,6 +77,28 @@ FinishesArePrecise =
     IsLegalHistory (started s policy) es → AreBeside es →
     (c : Cycle) → (after (started s policy) es).cycle ≡ Some c →
     IsSome (place c (after (started s policy) es).words p i) → HasCause (started s policy) es p i
+
+-- takes: what a take finds is the least of the free indexes, from 1 on below the limit, and it finds none just where there
+-- is none
+abbrev pub IsFree : Table → Space → ℕ → Type 0
+IsFree s p i = (1 ≤ i) × (i < limit_of s p) × (s.used p i ≡ false)
+
+abbrev pub TakesFindTheLeast : Type 0
+TakesFindTheLeast =
+    (s : Table) (p : Space) →
+    ((i : ℕ) → (least_free s p ≡ Some i) ↔ (IsFree s p i × ((j : ℕ) → IsFree s p j → i ≤ j)))
+    × ((least_free s p ≡ None) ↔ ((i : ℕ) → IsFree s p i → ⊥))
+
+-- targets: where a marked cell of the area moves is the greatest of the evacuation entries of fields whose word names it
+pub record IsEntryFor (c : Cycle) (words : Field → ℕ) (i e : ℕ) : Type 0 where
+  pub area : (start : ℕ) × (moves_from c ≡ Some start) × (start ≤ i) × (e < start)
+  pub marked : IsTrue (c.marks External i)
+  pub entry : (number : ℕ) × (c.evac e ≡ Some number) × (index_of (words (field.External number)) ≡ i)
+
+abbrev pub TargetsAreTheGreatest : Type 0
+TargetsAreTheGreatest =
+    (c : Cycle) (words : Field → ℕ) (i e : ℕ) →
+    (target c words i ≡ Some e) ↔ (IsEntryFor c words i e × ((d : ℕ) → IsEntryFor c words i d → d ≤ e))
 
 -- moves: behind a finish with an area and no abort each external cell stands below the start, and the cell of each index
 -- with a target stands there, with its id, tag and value

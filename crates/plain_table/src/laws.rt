@@ -11,8 +11,11 @@ ghost use Rattle.plain_table.specs.Laws.{
   HistoriesAreSound,
   HoldersKeepTheirIndex,
   HoldersReadTheirOwn,
+  HoldersStayLive,
   OpeningsAreSound,
   ReachOnlyGrowsByNew,
+  TakesFindTheLeast,
+  TargetsAreTheGreatest,
   ValuesWereStored,
 };
 
@@ -47,6 +50,11 @@ pub fn holders_read_their_own()
     ensures { HoldersReadTheirOwn }
 {}
 
+/// A live holder stays one, until its object can't be reached any more or its field is forged.
+pub fn holders_stay_live()
+    ensures { HoldersStayLive }
+{}
+
 /// No take answers the index of a live holder.
 pub fn holders_keep_their_index()
     ensures { HoldersKeepTheirIndex }
@@ -55,6 +63,16 @@ pub fn holders_keep_their_index()
 /// Each cell that a finish keeps has a cause in its cycle: it was written, or a field's word named it.
 pub fn finishes_are_precise()
     ensures { FinishesArePrecise }
+{}
+
+/// What a take finds is the least of the free indexes, and it finds none just where there is none.
+pub fn takes_find_the_least()
+    ensures { TakesFindTheLeast }
+{}
+
+/// Where a marked cell of the area moves is the greatest of the evacuation entries of fields whose word names it.
+pub fn targets_are_the_greatest()
+    ensures { TargetsAreTheGreatest }
 {}
 
 /// Behind a finish with an area and no abort each external cell stands below the area, and each one that moved stands

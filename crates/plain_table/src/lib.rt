@@ -34,7 +34,8 @@ pub use laws::{
     cells_move_to_their_target, cells_stand_at_their_place, events_are_steady,
     events_keep_soundness, finishes_are_precise, finishes_cannot_be_refused,
     fresh_images_show_the_opening, histories_are_sound, holders_keep_their_index,
-    holders_read_their_own, openings_are_sound, reach_only_grows_by_new, values_were_stored,
+    holders_read_their_own, holders_stay_live, openings_are_sound, reach_only_grows_by_new,
+    takes_find_the_least, targets_are_the_greatest, values_were_stored,
 };
 pub use replays::replay;
 pub use reports::{Compaction, MeetReport, Outcome, PhaseReport, Reply, SweepReport};
