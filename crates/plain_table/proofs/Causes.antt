@@ -1,6 +1,6 @@
 -- Precision: each cell that a finish keeps is marked, and each mark has its cause since the start of the cycle. A cause
 -- once there stays, since words only come into fields, and what stood there at the start is not forgotten.
-use Rattle.std.proofs.Common.{◌≡◌, ℕ, ◌==◌, true, List, [], ◌∷◌, Option, Some, None, sym, ◌∙◌, inl, inr, IsTrue, IsSome, IsSomeAnd, subst, subst₂}
+use Rattle.std.proofs.Common.{◌≡◌, ℕ, ◌==◌, true, List, [], ◌∷◌, Option, Some, None, option_map, sym, ◌∙◌, inl, inr, IsTrue, IsSome, IsSomeAnd, subst, subst₂}
 use Rattle.std.specs.Prelude.{◌⊎◌, nat_lt}
 use Rattle.plain_table.specs.declared.events.Act.{Act}
 use Rattle.plain_table.specs.declared.events.Act.TheVariants.{New, Drop, Get, Link, Take, Below, Abort, Put, Bind, Name, Look, Set, Swap, Forge, Publish, Mark, Evac, Scan, Start, Finish}
@@ -10,7 +10,7 @@ use Rattle.plain_table.specs.declared.events.Space.TheVariants.{External, Truste
 use Rattle.plain_table.specs.declared.events.Field.{Field}
 use Rattle.plain_table.specs.declared.events.Field.TheVariants as field
 use Rattle.plain_table.specs.Index.{index_of}
-use Rattle.plain_table.specs.Cycle.{Cycle, marked_in, born_in, scanned_in, touched_in, evacuated_in, aborted_in}
+use Rattle.plain_table.specs.Cycle.{Cycle, with_mark, with_birth, with_scan, with_word, with_entry, with_abort, marked_in, touched_in}
 use Rattle.plain_table.specs.Table.{Table, least_free}
 use Rattle.plain_table.specs.Finish.{IsKept, place, started}
 use Rattle.plain_table.specs.Rows.{row, IsNamed, object_in, free_below, with_object, with_bound, with_unbound}
@@ -36,51 +36,25 @@ record GoesOn (old new : Option Cycle) (p : Space) (i : ℕ) (P : Type 0) : Type
   names : IsNamedIn old p i → IsNamedIn new p i
 
 module _ (p : Space) (i : ℕ) where
-  GoesOn-marked : (cycle : Option Cycle) (q : Space) (j : ℕ) (P : Type 0) → ((q ≡ p) × (j ≡ i) → P) → GoesOn cycle (marked_in cycle q j) p i P
-  GoesOn-marked None q j P writes = record { marks = λ h. inl h; names = λ h. h }
-  GoesOn-marked (Some c) q j P writes = record {
-    marks = λ h. elim (read_entry true c.marks q j p i) [
-      | inl r ↦ inr (writes r.0)
-      | inr r ↦ inl (sym r.1 ∙ h)
-    ];
-    names = λ h. h;
-  }
-
-  module _ (P : Type 0) where
+  module _ {P : Type 0} where
     GoesOn-same : (cycle : Option Cycle) → GoesOn cycle cycle p i P
     GoesOn-same cycle = record { marks = λ h. inl h; names = λ h. h }
 
-    GoesOn-born : (cycle : Option Cycle) (o : ℕ) → GoesOn cycle (born_in cycle o) p i P
-    GoesOn-born None o = GoesOn-same None
-    GoesOn-born (Some c) o = record { marks = λ h. inl h; names = λ h. h }
+    GoesOn-changed : (cycle : Option Cycle) (change : Cycle → Cycle) → ((c : Cycle) → IsTrue ((change c).marks p i) → IsTrue (c.marks p i) ⊎ P) →
+        ((c : Cycle) → IsNamed c p i → IsNamed (change c) p i) → GoesOn cycle (option_map change cycle) p i P
+    GoesOn-changed None change marks names = GoesOn-same None
+    GoesOn-changed (Some c) change marks names = record { marks = marks c; names = names c }
 
-    GoesOn-scanned : (cycle : Option Cycle) (o : ℕ) → GoesOn cycle (scanned_in cycle o) p i P
-    GoesOn-scanned None o = GoesOn-same None
-    GoesOn-scanned (Some c) o = record { marks = λ h. inl h; names = λ h. h }
-
-    GoesOn-evacuated : (cycle : Option Cycle) (j number : ℕ) → GoesOn cycle (evacuated_in cycle j number) p i P
-    GoesOn-evacuated None j number = GoesOn-same None
-    GoesOn-evacuated (Some c) j number = record { marks = λ h. inl h; names = λ h. h }
-
-    GoesOn-aborted : (cycle : Option Cycle) → GoesOn cycle (aborted_in cycle) p i P
-    GoesOn-aborted None = GoesOn-same None
-    GoesOn-aborted (Some c) = record { marks = λ h. inl h; names = λ h. h }
+    GoesOn-marked : (cycle : Option Cycle) (q : Space) (j : ℕ) → ((q ≡ p) × (j ≡ i) → P) → GoesOn cycle (marked_in cycle q j) p i P
+    GoesOn-marked cycle q j writes =
+        GoesOn-changed cycle (with_mark q j)
+        (λ c h. elim (read_entry true c.marks q j p i) [ inl r ↦ inr (writes r.0) | inr r ↦ inl (sym r.1 ∙ h) ])
+        (λ c h. h)
 
     GoesOn-touched : (cycle : Option Cycle) (g : Field) (v : ℕ) → GoesOn cycle (touched_in cycle g v) p i P
-    GoesOn-touched None g v = GoesOn-same None
-    GoesOn-touched (Some c) g v = record {
-      marks = λ h. inl h;
-      names = λ h. (
-        h.0,
-        h.1,
-        h.2,
-        h.3,
-        elim h.4 [
-          | inl old ↦ inl old
-          | inr new ↦ inr (put_field-grows c.came g v h.0 h.1 new)
-        ],
-      );
-    }
+    GoesOn-touched cycle g v =
+        GoesOn-changed cycle (with_word g v) (λ c h. inl h)
+        (λ c h. (h.0, h.1, h.2, h.3, elim h.4 [ inl old ↦ inl old | inr new ↦ inr (put_field-grows c.came g v h.0 h.1 new) ]))
 
   -- a mark event is allowed only at an index that is named
   named_at_mark : (cycle : Option Cycle) (q : Space) (j : ℕ) (stands : Type 0) → IsSomeAnd cycle (λ c. stands × IsNamed c q j) →
@@ -94,33 +68,33 @@ module _ (p : Space) (i : ℕ) where
       GoesOn s.cycle (row s b a).next.cycle p i (Writes a p i ⊎ IsNamedIn s.cycle p i)
   GoesOn-row s b (New var) beside k =
       if_either (λ t. GoesOn s.cycle t.cycle p i (Writes (New var) p i ⊎ IsNamedIn s.cycle p i)) (nat_lt s.count s.sizes.objects) (with_object s b var) s
-      (GoesOn-born _ s.cycle s.count) (GoesOn-same _ s.cycle)
-  GoesOn-row s b (Drop var) beside k = GoesOn-same _ s.cycle
-  GoesOn-row s b (Get var spot) beside k = GoesOn-same _ s.cycle
+      (GoesOn-changed s.cycle (with_birth s.count) (λ c h. inl h) (λ c h. h)) (GoesOn-same s.cycle)
+  GoesOn-row s b (Drop var) beside k = GoesOn-same s.cycle
+  GoesOn-row s b (Get var spot) beside k = GoesOn-same s.cycle
   GoesOn-row s b (Link spot var) beside k =
       with_linked_either (λ t. GoesOn s.cycle t.cycle p i (Writes (Link spot var) p i ⊎ IsNamedIn s.cycle p i)) s spot (object_in s b var)
-      (λ g. GoesOn-same _ s.cycle) (λ object n. GoesOn-same _ s.cycle)
+      (λ g. GoesOn-same s.cycle) (λ object n. GoesOn-same s.cycle)
   GoesOn-row s b (Take q) beside k =
       with_taken_either (λ t. GoesOn s.cycle t.cycle p i (Writes (Take q) p i ⊎ IsNamedIn s.cycle p i)) s b q (least_free s q)
-      (GoesOn-same _ s.cycle) (λ j. GoesOn-same _ s.cycle)
+      (GoesOn-same s.cycle) (λ j. GoesOn-same s.cycle)
   GoesOn-row s b (Below start) beside k =
       with_taken_either (λ t. GoesOn s.cycle t.cycle p i (Writes (Below start) p i ⊎ IsNamedIn s.cycle p i)) s b External (free_below s start)
-      (GoesOn-same _ s.cycle) (λ j. GoesOn-same _ s.cycle)
-  GoesOn-row s b Abort beside k = GoesOn-aborted _ s.cycle
-  GoesOn-row s b (Put q j tag value) beside k = GoesOn-marked s.cycle q j _ (λ same. inl same)
+      (GoesOn-same s.cycle) (λ j. GoesOn-same s.cycle)
+  GoesOn-row s b Abort beside k = GoesOn-changed s.cycle with_abort (λ c h. inl h) (λ c h. h)
+  GoesOn-row s b (Put q j tag value) beside k = GoesOn-marked s.cycle q j (λ same. inl same)
   GoesOn-row s b (Bind f word) beside k =
       if_either (λ t. GoesOn s.cycle t.cycle p i (Writes (Bind f word) p i ⊎ IsNamedIn s.cycle p i)) (s.words f == 0) (with_bound s b f word) (with_unbound s b f word)
-      (GoesOn-touched _ s.cycle f word) (GoesOn-same _ s.cycle)
-  GoesOn-row s b (Name f) beside k = GoesOn-same _ s.cycle
-  GoesOn-row s b (Look q word tag) beside k = GoesOn-same _ s.cycle
-  GoesOn-row s b (Set word tag value) beside k = GoesOn-marked s.cycle External (index_of word) _ (λ same. inl (sym same.0, same.1))
-  GoesOn-row s b (Swap word tag value) beside k = GoesOn-marked s.cycle External (index_of word) _ (λ same. inl (sym same.0, same.1))
-  GoesOn-row s b (Forge number word) beside k = GoesOn-touched _ s.cycle (field.External number) word
-  GoesOn-row s b (Publish j) beside k = GoesOn-marked s.cycle Trusted j _ (λ same. inl (sym same.0, same.1))
+      (GoesOn-touched s.cycle f word) (GoesOn-same s.cycle)
+  GoesOn-row s b (Name f) beside k = GoesOn-same s.cycle
+  GoesOn-row s b (Look q word tag) beside k = GoesOn-same s.cycle
+  GoesOn-row s b (Set word tag value) beside k = GoesOn-marked s.cycle External (index_of word) (λ same. inl (sym same.0, same.1))
+  GoesOn-row s b (Swap word tag value) beside k = GoesOn-marked s.cycle External (index_of word) (λ same. inl (sym same.0, same.1))
+  GoesOn-row s b (Forge number word) beside k = GoesOn-touched s.cycle (field.External number) word
+  GoesOn-row s b (Publish j) beside k = GoesOn-marked s.cycle Trusted j (λ same. inl (sym same.0, same.1))
   GoesOn-row s b (Mark q j) beside k =
-      GoesOn-marked s.cycle q j _ (λ same. inr (named_at_mark s.cycle q j (IsSome (s.cells q j)) k same))
-  GoesOn-row s b (Evac j number) beside k = GoesOn-evacuated _ s.cycle j number
-  GoesOn-row s b (Scan o) beside k = GoesOn-scanned _ s.cycle o
+      GoesOn-marked s.cycle q j (λ same. inr (named_at_mark s.cycle q j (IsSome (s.cells q j)) k same))
+  GoesOn-row s b (Evac j number) beside k = GoesOn-changed s.cycle (with_entry j number) (λ c h. inl h) (λ c h. h)
+  GoesOn-row s b (Scan o) beside k = GoesOn-changed s.cycle (with_scan o) (λ c h. inl h) (λ c h. h)
   GoesOn-row s b (Start policy) beside k = absurd beside
   GoesOn-row s b Finish beside k = absurd beside
 

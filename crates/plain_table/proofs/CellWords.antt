@@ -18,6 +18,7 @@ use Rattle.plain_table.specs.Words.{entry_place, cell_word, evacuation_word}
 use Rattle.plain_table.specs.Shows.{Shows, entry_at}
 use Rattle.plain_table.specs.WordLaws.{WritesCell, CellWordsFollow, EvacuationWordsFollow, HasSoundIndexes}
 use Rattle.plain_table.proofs.PlaceReads.{read_entry, put_at-same, put_at-other, put_entry-same}
+use Rattle.plain_table.proofs.CycleParts.{IfSome-changed}
 use Rattle.plain_table.proofs.WordPlaces.{entry_place-below}
 use Rattle.plain_table.proofs.ShownParts.{IsMarkIn, ShownParts-Shows, Shows-ShownParts}
 use Rattle.plain_table.proofs.WordChanges.{Changed, Changed-slice_set, AreWithin-HasSoundIndexes, no_cell-id}
@@ -26,18 +27,14 @@ use Rattle.plain_table.proofs.EntryWords.{EntryTells, Shown-entry}
 -- the marks behind a mark
 IsMarkIn-marked : (cycle : Option Cycle) (p : Space) (i : ℕ) → IsMarkIn (marked_in cycle p i) p i true
 IsMarkIn-marked None p i = tt
-IsMarkIn-marked (Some c) p i = elim (read_entry true c.marks p i p i) [
-  | inl r ↦ sym r.1
-  | inr r ↦ absurd (r.0 (refl, refl))
-]
+IsMarkIn-marked (Some c) p i = sym (put_entry-same c.marks p i true)
 
 IsMarkIn-other : (cycle : Option Cycle) (p : Space) (i : ℕ) (q : Space) (j : ℕ) (m : Bool) → ((p ≡ q) × (i ≡ j) → ⊥) →
     IsMarkIn cycle q j m → IsMarkIn (marked_in cycle p i) q j m
-IsMarkIn-other None p i q j m apart was = tt
-IsMarkIn-other (Some c) p i q j m apart was = elim (read_entry true c.marks p i q j) [
+IsMarkIn-other cycle p i q j m apart was = IfSome-changed (λ d. m ≡ d.marks q j) cycle was (λ c h. elim (read_entry true c.marks p i q j) [
   | inl r ↦ absurd (apart r.0)
-  | inr r ↦ was ∙ sym r.1
-]
+  | inr r ↦ h ∙ sym r.1
+])
 
 -- cells that are changed at one index, and evacuation entries that are changed at one index of the external space
 abbrev AreChangedAt : Space → ℕ → (Space → ℕ → Option Cell) → (Space → ℕ → Option Cell) → Type 0
@@ -128,10 +125,6 @@ CellFollows words s next cell p i = next.cells p i ≡ Some cell → Shows (slic
 id_at-some : (found : Option Cell) (P : Cell → Type 0) → IsSomeAnd found P → IsSome (option_map (λ (c : Cell). c.id) found)
 id_at-some None P is = absurd is
 id_at-some (Some c) P is = refl
-
-in_cycle-cell : (cycle : Option Cycle) (Q : Type 0) (P : Cycle → Type 0) → IsSomeAnd cycle (λ c. Q × P c) → Q
-in_cycle-cell None Q P is = absurd is
-in_cycle-cell (Some c) Q P is = is.0
 
 -- where a published cell stands, a cell stood
 published-some : (found : Option Cell) (cell : Cell) → option_map (λ (c : Cell). record c { shown = true }) found ≡ Some cell →

@@ -8,7 +8,7 @@ use Rattle.plain_table.specs.declared.events.Field.{Field}
 use Rattle.plain_table.specs.declared.reports.Reply.{Reply}
 use Rattle.plain_table.specs.declared.reports.Reply.TheVariants as reply
 use Rattle.plain_table.specs.Places.{put_at}
-use Rattle.plain_table.specs.Cycle.{Cycle, born_in, aborted_in}
+use Rattle.plain_table.specs.Cycle.{Cycle, with_birth, born_in, aborted_in}
 use Rattle.plain_table.specs.Table.{Table, Sizes}
 use Rattle.plain_table.specs.Rows.{row, with_object}
 use Rattle.plain_table.specs.Words.{area_place, count_place, area_word, header_word}
@@ -87,7 +87,7 @@ black-new scanned born n o = elim (read_at true born n o) [
 IsHeader-new : (s t : Table) (cycle : Option Cycle) (o word : ℕ) → t.count ≡ s.count + 1 → IsHeader s cycle o word → IsHeader t (born_in cycle s.count) o word
 IsHeader-new s t None o word one_more is = is
 IsHeader-new s t (Some c) o word one_more is =
-    let same : is_black t (record c { born = put_at c.born s.count true }) o ≡ is_black s c o =
+    let same : is_black t (with_birth s.count c) o ≡ is_black s c o =
     ap (λ n. c.scans o || put_at c.born s.count true o || nat_le n o) one_more ∙ black-new (c.scans o) c.born s.count o in
     (is.0, is.1 ∙ ap (header_word is.0) (sym same), λ black. is.2 (sym same ∙ black))
 

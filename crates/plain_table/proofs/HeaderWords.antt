@@ -5,8 +5,7 @@ use Rattle.std.proofs.lemmas.Bool.Decides.{eqb_tells}
 use Rattle.plain_table.specs.declared.events.Cell.{Cell}
 use Rattle.plain_table.specs.declared.events.Space.{Space}
 use Rattle.plain_table.specs.declared.events.Field.{Field}
-use Rattle.plain_table.specs.Places.{put_at}
-use Rattle.plain_table.specs.Cycle.{Cycle, scanned_in}
+use Rattle.plain_table.specs.Cycle.{Cycle, with_scan, scanned_in}
 use Rattle.plain_table.specs.Table.{Table, Sizes}
 use Rattle.plain_table.specs.Rows.{row}
 use Rattle.plain_table.specs.Words.{header_place, header_word}
@@ -42,10 +41,10 @@ module _ {words changed : List ℕ} (o w : ℕ) (h : Changed words changed (head
   }
 
 -- a scanned object is black, and all others are what they were
-black-scanned : (s : Table) (c : Cycle) (o : ℕ) → is_black s (record c { scans = put_at c.scans o true }) o ≡ true
+black-scanned : (s : Table) (c : Cycle) (o : ℕ) → is_black s (with_scan o c) o ≡ true
 black-scanned s c o = ap (λ b. b || c.born o || nat_le s.count o) (put_at-same c.scans o true)
 
-black-other : (s : Table) (c : Cycle) (o m : ℕ) → o ≢ m → is_black s (record c { scans = put_at c.scans o true }) m ≡ is_black s c m
+black-other : (s : Table) (c : Cycle) (o m : ℕ) → o ≢ m → is_black s (with_scan o c) m ≡ is_black s c m
 black-other s c o m apart = ap (λ b. b || c.born m || nat_le s.count m) (put_at-other c.scans o m true apart)
 
 Shows-scanned : (words : List ℕ) (s : Table) (o : ℕ) (cycle : Option Cycle) (P : Cycle → Type 0) → IsSomeAnd cycle P → o < s.sizes.objects →

@@ -5,15 +5,13 @@ use Rattle.std.proofs.lemmas.Bool.Decides.{eqb_tells}
 use Rattle.std.proofs.lemmas.Option.{IfSome_then}
 use Rattle.plain_table.specs.declared.scripts.Policy.{Policy}
 use Rattle.plain_table.specs.declared.events.Act.{Act}
-use Rattle.plain_table.specs.declared.events.Act.TheVariants.{New, Drop, Get, Link, Take, Below, Abort, Put, Bind, Name, Look, Set, Swap, Forge, Publish, Mark, Evac, Scan, Start, Finish}
+use Rattle.plain_table.specs.declared.events.Act.TheVariants.{New, Drop, Get, Link, Take, Below, Abort, Bind, Name, Look, Evac, Start, Finish}
 use Rattle.plain_table.specs.declared.events.Space.{Space}
-use Rattle.plain_table.specs.declared.events.Space.TheVariants.{External, Trusted}
-use Rattle.plain_table.specs.declared.events.Field.{Field}
+use Rattle.plain_table.specs.declared.events.Space.TheVariants.{External}
 use Rattle.plain_table.specs.declared.events.Field.TheVariants as field
-use Rattle.plain_table.specs.Index.{index_of}
 use Rattle.plain_table.specs.Places.{object_of, put_at}
 use Rattle.plain_table.specs.Area.{count_below, greatest_below, area_segments, area_start}
-use Rattle.plain_table.specs.Cycle.{Cycle, IsOld, marked_in, evacuated_in, aborted_in}
+use Rattle.plain_table.specs.Cycle.{Cycle, IsOld, evacuated_in, aborted_in}
 use Rattle.plain_table.specs.Table.{Table, limit_of, least_free}
 use Rattle.plain_table.specs.Finish.{CanFinish, started}
 use Rattle.plain_table.specs.Rows.{object_in, free_below, with_object, with_taken, with_bound, with_unbound, row}
@@ -21,7 +19,7 @@ use Rattle.plain_table.specs.Sound.{IsSound, CycleSound, AreaSound}
 use Rattle.plain_table.proofs.PlaceReads.{read_at, put_at-same, put_at-grows, put_entry-grows}
 use Rattle.plain_table.proofs.Options.{IsSomeAnd-some}
 use Rattle.plain_table.proofs.AreaStarts.{area_segments-below, greatest_below-lt}
-use Rattle.plain_table.proofs.CycleParts.{IfSome-and, IfSome-both, IfSome-marked, IfSome-born, IfSome-scanned, IfSome-touched, IfSome-evacuated, IfSome-aborted, IfSome-finished, IfSome-start, IfSome-empty}
+use Rattle.plain_table.proofs.CycleParts.{IfSome-and, IfSome-changed, IfSome-changed_by, IfSome-finished, IfSome-start, IfSome-empty}
 use Rattle.plain_table.proofs.Branches.{if_either, with_linked_either}
 
 -- the greatest number below a limit in a set, else 0: it is no greater than the limit, and only grows with the set
@@ -120,9 +118,6 @@ module _ (seg top : ℕ) (start : Option ℕ) (aborted : Bool) (evac : ℕ → O
     ];
   }
 
-AreaIn-object : (s : Table) (b var : ℕ) → IsSound s → IfSome (with_object s b var).cycle (AreaIn (with_object s b var))
-AreaIn-object s b var h = IfSome-born (CycleSound s) (AreaIn s) s.cycle s.count (λ c d. d.area) h.cycle
-
 AreaIn-take : (s : Table) (b : ℕ) (p : Space) (found : Option ℕ) → IsSound s → IfSome (with_taken s b p found).cycle (AreaIn (with_taken s b p found))
 AreaIn-take s b p None h = AreaIn-same s s.cycle h.cycle
 AreaIn-take s b p (Some i) h =
@@ -133,16 +128,9 @@ AreaIn-take s b p (Some i) h =
 
 AreaIn-abort : (s : Table) → IsSound s → IfSome s.cycle (λ c. IsSomeAnd c.start (λ start. free_below s start ≡ None)) → IfSome (aborted_in s.cycle) (AreaIn s)
 AreaIn-abort s h is =
-    IfSome-aborted (λ c. CycleSound s c × IsSomeAnd c.start (λ start. free_below s start ≡ None)) (AreaIn s) s.cycle
-    (λ c d. AreaSound-aborted s.sizes.seg (greatest (s.used External) (limit_of s External)) c.start c.aborted c.evac c.visited (IsOld c)
-    (IsSomeAnd-some c.start (λ start. free_below s start ≡ None) d.1) d.0.area)
-    (IfSome-both (CycleSound s) (λ c. IsSomeAnd c.start (λ start. free_below s start ≡ None)) s.cycle h.cycle is)
-
-AreaIn-bound : (s : Table) (b : ℕ) (f : Field) (w : ℕ) → IsSound s → IfSome (with_bound s b f w).cycle (AreaIn (with_bound s b f w))
-AreaIn-bound s b f w h = IfSome-touched (CycleSound s) (AreaIn s) s.cycle f w (λ c d. d.area) h.cycle
-
-AreaIn-mark : (s : Table) (p : Space) (i : ℕ) → IsSound s → IfSome (marked_in s.cycle p i) (AreaIn s)
-AreaIn-mark s p i h = IfSome-marked (CycleSound s) (AreaIn s) s.cycle p i (λ c d. d.area) h.cycle
+    IfSome-changed_by (AreaIn s) s.cycle h.cycle is
+    (λ c d may. AreaSound-aborted s.sizes.seg (greatest (s.used External) (limit_of s External)) c.start c.aborted c.evac c.visited (IsOld c)
+    (IsSomeAnd-some c.start (λ start. free_below s start ≡ None) may) d.area)
 
 -- what an evacuation entry finds in the cycle
 record MayEvacuate (i number : ℕ) (c : Cycle) : Type 0 where
@@ -157,10 +145,9 @@ MayEvacuate-each (Some c) i number empty below old = record { empty = empty; bel
 
 AreaIn-evac : (s : Table) (i number : ℕ) → IsSound s → IfSome s.cycle (MayEvacuate i number) → IfSome (evacuated_in s.cycle i number) (AreaIn s)
 AreaIn-evac s i number h may =
-    IfSome-evacuated (λ c. CycleSound s c × MayEvacuate i number c) (AreaIn s) s.cycle i number
-    (λ c d. AreaSound-evacuated s.sizes.seg (greatest (s.used External) (limit_of s External)) c.start c.aborted c.evac c.visited (IsOld c) i number
-    d.1.empty d.1.below d.1.old d.0.area)
-    (IfSome-both (CycleSound s) (MayEvacuate i number) s.cycle h.cycle may)
+    IfSome-changed_by (AreaIn s) s.cycle h.cycle may
+    (λ c d k. AreaSound-evacuated s.sizes.seg (greatest (s.used External) (limit_of s External)) c.start c.aborted c.evac c.visited (IsOld c) i number
+    k.empty k.below k.old d.area)
 
 AreaIn-start : (s : Table) (policy : Policy) → IfSome (started s policy).cycle (AreaIn (started s policy))
 AreaIn-start s policy = record {
@@ -175,7 +162,7 @@ AreaIn-start s policy = record {
 pub AreaIn-next : (s : Table) (b : ℕ) (a : Act) → IsSound s → (row s b a).allowed → IfSome (row s b a).next.cycle (AreaIn (row s b a).next)
 AreaIn-next s b (New var) h k =
     if_either (λ t. IfSome t.cycle (AreaIn t)) (nat_lt s.count s.sizes.objects) (with_object s b var) s
-    (AreaIn-object s b var h) (AreaIn-same s s.cycle h.cycle)
+    (IfSome-changed (AreaIn s) s.cycle h.cycle (λ c d. d.area)) (AreaIn-same s s.cycle h.cycle)
 AreaIn-next s b (Drop var) h k = AreaIn-same s s.cycle h.cycle
 AreaIn-next s b (Get var spot) h k = AreaIn-same s s.cycle h.cycle
 AreaIn-next s b (Link spot var) h k =
@@ -184,21 +171,15 @@ AreaIn-next s b (Link spot var) h k =
 AreaIn-next s b (Take p) h k = AreaIn-take s b p (least_free s p) h
 AreaIn-next s b (Below start) h k = AreaIn-take s b External (free_below s start) h
 AreaIn-next s b Abort h k = AreaIn-abort s h (IfSome-start (λ start. free_below s start ≡ None) s.cycle k)
-AreaIn-next s b (Put p i tag value) h k = AreaIn-mark s p i h
 AreaIn-next s b (Bind f w) h k =
     if_either (λ t. IfSome t.cycle (AreaIn t)) (s.words f == 0) (with_bound s b f w) (with_unbound s b f w)
-    (AreaIn-bound s b f w h) (AreaIn-same s s.cycle h.cycle)
+    (IfSome-changed (AreaIn s) s.cycle h.cycle (λ c d. d.area)) (AreaIn-same s s.cycle h.cycle)
 AreaIn-next s b (Name f) h k = AreaIn-same s s.cycle h.cycle
 AreaIn-next s b (Look p w tag) h k = AreaIn-same s s.cycle h.cycle
-AreaIn-next s b (Set w tag value) h k = AreaIn-mark s External (index_of w) h
-AreaIn-next s b (Swap w tag value) h k = AreaIn-mark s External (index_of w) h
-AreaIn-next s b (Forge number w) h k =
-    IfSome-touched (CycleSound s) (AreaIn s) s.cycle (field.External number) w (λ c d. d.area) h.cycle
-AreaIn-next s b (Publish i) h k = AreaIn-mark s Trusted i h
-AreaIn-next s b (Mark p i) h k = AreaIn-mark s p i h
 AreaIn-next s b (Evac i number) h k =
     AreaIn-evac s i number h (MayEvacuate-each s.cycle i number (IfSome-empty s.cycle i (h.used.claim_or_entry b i k.0))
-    (IfSome-start (λ start. i < start) s.cycle k.1) (IfSome-and (λ c. IsOld c (object_of (field.External number))) s.cycle k.2))
-AreaIn-next s b (Scan o) h k = IfSome-scanned (CycleSound s) (AreaIn s) s.cycle o (λ c d. d.area) h.cycle
+    (IfSome-start (λ start. i < start) s.cycle k.1) (IfSome-and s.cycle k.2 (λ c d. d)))
 AreaIn-next s b (Start policy) h k = AreaIn-start s policy
 AreaIn-next s b Finish h k = IfSome-finished (CanFinish s) _ s s.cycle k.1
+-- all others leave the area and its entries alone
+AreaIn-next s b _ h k = IfSome-changed (AreaIn s) s.cycle h.cycle (λ c d. d.area)

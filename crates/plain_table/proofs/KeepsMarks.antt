@@ -8,19 +8,18 @@ use Rattle.plain_table.specs.declared.events.Cell.{Cell}
 use Rattle.plain_table.specs.declared.events.Space.{Space}
 use Rattle.plain_table.specs.declared.events.Space.TheVariants.{External, Trusted}
 use Rattle.plain_table.specs.declared.events.Field.{Field}
-use Rattle.plain_table.specs.declared.events.Field.TheVariants as field
 use Rattle.plain_table.specs.Index.{index_of}
 use Rattle.plain_table.specs.Places.{space_of, put_entry, put_claim}
 use Rattle.plain_table.specs.Cycle.{Cycle, is_from, marked_in}
 use Rattle.plain_table.specs.Table.{Table, least_free}
 use Rattle.plain_table.specs.Finish.{id_at, CanFinish}
-use Rattle.plain_table.specs.Rows.{HasCell, MayFill, IsNamed, free_below, object_in, with_object, with_cell, with_bound, with_unbound, with_value, with_published, row}
+use Rattle.plain_table.specs.Rows.{HasCell, MayFill, free_below, object_in, with_object, with_cell, with_bound, with_unbound, with_value, with_published, row}
 use Rattle.plain_table.specs.Sound.{IsSound, CycleSound, MarksSound}
 use Rattle.plain_table.proofs.PlaceReads.{read_entry, read_claim, put_entry-grows, put_entry-same}
 use Rattle.plain_table.proofs.Options.{IsSomeAnd-some, is_some-option_map}
 use Rattle.plain_table.proofs.ClaimReads.{put_claim-was}
 use Rattle.plain_table.proofs.IdsAt.{id_at-with_value, id_at-with_published, id_at-with_cell-here, id_at-with_cell-was}
-use Rattle.plain_table.proofs.CycleParts.{IfSome-and, IfSome-both, IfSome-marked, IfSome-born, IfSome-scanned, IfSome-touched, IfSome-evacuated, IfSome-aborted, IfSome-finished}
+use Rattle.plain_table.proofs.CycleParts.{IfSome-and, IfSome-changed, IfSome-changed_by, IfSome-finished}
 use Rattle.plain_table.proofs.Branches.{if_either, with_taken_either, with_linked_either}
 
 -- the marks of a cycle, for a table
@@ -74,9 +73,6 @@ module _ (ids : Space → ℕ → Option ℕ) (fresh : ℕ → Space → ℕ →
     outside = λ c j is from. refl;
   }
 
-MarksIn-object : (s : Table) (b var : ℕ) → IsSound s → IfSome (with_object s b var).cycle (MarksIn (with_object s b var))
-MarksIn-object s b var h = IfSome-born (CycleSound s) (MarksIn s) s.cycle s.count (λ c d. d.marks) h.cycle
-
 -- a put in the area comes behind an abort
 is_from-put : (start : Option ℕ) (aborted : Bool) (i : ℕ) → IfSome start (λ first. first ≤ i → IsTrue aborted) → IsTrue (is_from start i) → IsTrue aborted
 is_from-put None aborted i may from = absurd (cc)
@@ -91,13 +87,11 @@ MayFill-outside s (Some c) Trusted i may = λ e from. absurd (cc)
 MarksIn-put : (s : Table) (b : ℕ) (p : Space) (i tag value : ℕ) → IsSound s → MayFill s p i →
     IfSome (marked_in s.cycle p i) (MarksIn (with_cell s b p i tag value))
 MarksIn-put s b p i tag value h may =
-    IfSome-marked (λ c. CycleSound s c × (p ≡ External → IsTrue (is_from c.start i) → IsTrue c.aborted))
-    (MarksIn (with_cell s b p i tag value)) s.cycle p i
-    (λ c d. MarksSound-filled (id_at (with_cell s b p i tag value)) s.fresh (put_entry c.marks p i true) c.start c.aborted b p i
-    (put_entry-same c.marks p i true) d.1
+    IfSome-changed_by (MarksIn (with_cell s b p i tag value)) s.cycle h.cycle (MayFill-outside s s.cycle p i may)
+    (λ c d out. MarksSound-filled (id_at (with_cell s b p i tag value)) s.fresh (put_entry c.marks p i true) c.start c.aborted b p i
+    (put_entry-same c.marks p i true) out
     (MarksSound-marked (id_at s) s.fresh c.marks c.start c.aborted p i (id_at (with_cell s b p i tag value)) (id_at-with_cell-was s b p i tag value)
-    (id_at-with_cell-here s b p i tag value) d.0.marks))
-    (IfSome-both (CycleSound s) (λ c. p ≡ External → IsTrue (is_from c.start i) → IsTrue c.aborted) s.cycle h.cycle (MayFill-outside s s.cycle p i may))
+    (id_at-with_cell-here s b p i tag value) d.marks))
 
 MarksIn-bind : (s : Table) (b : ℕ) (f : Field) (w : ℕ) (free : Bool) → IsSound s →
     IfSome (if free then with_bound s b f w else with_unbound s b f w).cycle (MarksIn (if free then with_bound s b f w else with_unbound s b f w))
@@ -105,31 +99,28 @@ MarksIn-bind s b f w false h =
     IfSome_then s.cycle h.cycle
     (λ c d. MarksSound-bound (id_at s) s.fresh c.marks c.start c.aborted b (space_of f) (index_of w) d.marks)
 MarksIn-bind s b f w true h =
-    IfSome-touched (CycleSound s) (MarksIn (with_bound s b f w)) s.cycle f w
-    (λ c d. MarksSound-bound (id_at s) s.fresh c.marks c.start c.aborted b (space_of f) (index_of w) d.marks) h.cycle
+    IfSome-changed (MarksIn (with_bound s b f w)) s.cycle h.cycle
+    (λ c d. MarksSound-bound (id_at s) s.fresh c.marks c.start c.aborted b (space_of f) (index_of w) d.marks)
 
 MarksIn-value : (s : Table) (i value : ℕ) → IsSound s → IsSome (id_at s External i) → IfSome (marked_in s.cycle External i) (MarksIn (with_value s i value))
 MarksIn-value s i value h is =
-    IfSome-marked (CycleSound s) (MarksIn (with_value s i value)) s.cycle External i
+    IfSome-changed (MarksIn (with_value s i value)) s.cycle h.cycle
     (λ c d. MarksSound-marked (id_at s) s.fresh c.marks c.start c.aborted External i (id_at (with_value s i value))
     (λ q j e. ap (λ (ids : Space → ℕ → Option ℕ). is_some (ids q j)) (id_at-with_value s i value) ∙ e)
     (ap (λ (ids : Space → ℕ → Option ℕ). is_some (ids External i)) (id_at-with_value s i value) ∙ is) d.marks)
-    h.cycle
 
 MarksIn-publish : (s : Table) (b i : ℕ) → IsSound s → IsSome (id_at s Trusted i) → IfSome (marked_in s.cycle Trusted i) (MarksIn (with_published s b i))
 MarksIn-publish s b i h is =
-    IfSome-marked (CycleSound s) (MarksIn (with_published s b i)) s.cycle Trusted i
+    IfSome-changed (MarksIn (with_published s b i)) s.cycle h.cycle
     (λ c d. MarksSound-marked (id_at s) s.fresh c.marks c.start c.aborted Trusted i (id_at (with_published s b i))
     (λ q j e. ap (λ (ids : Space → ℕ → Option ℕ). is_some (ids q j)) (id_at-with_published s b i) ∙ e)
     (ap (λ (ids : Space → ℕ → Option ℕ). is_some (ids Trusted i)) (id_at-with_published s b i) ∙ is) d.marks)
-    h.cycle
 
 MarksIn-mark : (s : Table) (p : Space) (i : ℕ) → IsSound s → IfSome s.cycle (λ c. IsSome (s.cells p i)) → IfSome (marked_in s.cycle p i) (MarksIn s)
 MarksIn-mark s p i h is =
-    IfSome-marked (λ c. CycleSound s c × IsSome (s.cells p i)) (MarksIn s) s.cycle p i
-    (λ c d. MarksSound-marked (id_at s) s.fresh c.marks c.start c.aborted p i (id_at s) (λ q j e. e)
-    (is_some-option_map (λ (cell : Cell). cell.id) (s.cells p i) ∙ d.1) d.0.marks)
-    (IfSome-both (CycleSound s) (λ c. IsSome (s.cells p i)) s.cycle h.cycle is)
+    IfSome-changed_by (MarksIn s) s.cycle h.cycle is
+    (λ c d cell. MarksSound-marked (id_at s) s.fresh c.marks c.start c.aborted p i (id_at s) (λ q j e. e)
+    (is_some-option_map (λ (x : Cell). x.id) (s.cells p i) ∙ cell) d.marks)
 
 -- the cell of a store, and that of a ticket
 id_at-cell : (s : Table) (w tag : ℕ) → HasCell s w tag → IsSome (id_at s External (index_of w))
@@ -144,7 +135,7 @@ id_at-ticket s b i h e =
 pub MarksIn-next : (s : Table) (b : ℕ) (a : Act) → IsSound s → (row s b a).allowed → IfSome (row s b a).next.cycle (MarksIn (row s b a).next)
 MarksIn-next s b (New var) h k =
     if_either (λ t. IfSome t.cycle (MarksIn t)) (nat_lt s.count s.sizes.objects) (with_object s b var) s
-    (MarksIn-object s b var h) (MarksIn-same s s.cycle h.cycle)
+    (IfSome-changed (MarksIn s) s.cycle h.cycle (λ c d. d.marks)) (MarksIn-same s s.cycle h.cycle)
 MarksIn-next s b (Drop var) h k = MarksIn-same s s.cycle h.cycle
 MarksIn-next s b (Get var spot) h k = MarksIn-same s s.cycle h.cycle
 MarksIn-next s b (Link spot var) h k =
@@ -157,20 +148,18 @@ MarksIn-next s b (Below start) h k =
     with_taken_either (λ t. IfSome t.cycle (MarksIn t)) s b External (free_below s start)
     (MarksIn-same s s.cycle h.cycle) (λ i. MarksIn-same s s.cycle h.cycle)
 MarksIn-next s b Abort h k =
-    IfSome-aborted (CycleSound s) (MarksIn s) s.cycle (λ c d. MarksSound-aborted (id_at s) s.fresh c.marks c.start c.aborted d.marks) h.cycle
+    IfSome-changed (MarksIn s) s.cycle h.cycle (λ c d. MarksSound-aborted (id_at s) s.fresh c.marks c.start c.aborted d.marks)
 MarksIn-next s b (Put p i tag value) h k = MarksIn-put s b p i tag value h k.3
 MarksIn-next s b (Bind f w) h k = MarksIn-bind s b f w (s.words f == 0) h
 MarksIn-next s b (Name f) h k = MarksIn-same s s.cycle h.cycle
 MarksIn-next s b (Look p w tag) h k = MarksIn-same s s.cycle h.cycle
 MarksIn-next s b (Set w tag value) h k = MarksIn-value s (index_of w) value h (id_at-cell s w tag k.0)
 MarksIn-next s b (Swap w tag value) h k = MarksIn-value s (index_of w) value h (id_at-cell s w tag k.0)
-MarksIn-next s b (Forge number w) h k =
-    IfSome-touched (CycleSound s) (MarksIn s) s.cycle (field.External number) w (λ c d. d.marks) h.cycle
+MarksIn-next s b (Forge number w) h k = IfSome-changed (MarksIn s) s.cycle h.cycle (λ c d. d.marks)
 MarksIn-next s b (Publish i) h k = MarksIn-publish s b i h (id_at-ticket s b i h k)
-MarksIn-next s b (Mark p i) h k =
-    MarksIn-mark s p i h (IfSome_then s.cycle (IfSome-and (λ c. IsSome (s.cells p i) × IsNamed c p i) s.cycle k) (λ c d. d.0))
-MarksIn-next s b (Evac i number) h k = IfSome-evacuated (CycleSound s) (MarksIn s) s.cycle i number (λ c d. d.marks) h.cycle
-MarksIn-next s b (Scan o) h k = IfSome-scanned (CycleSound s) (MarksIn s) s.cycle o (λ c d. d.marks) h.cycle
+MarksIn-next s b (Mark p i) h k = MarksIn-mark s p i h (IfSome-and s.cycle k (λ c d. d.0))
+MarksIn-next s b (Evac i number) h k = IfSome-changed (MarksIn s) s.cycle h.cycle (λ c d. d.marks)
+MarksIn-next s b (Scan o) h k = IfSome-changed (MarksIn s) s.cycle h.cycle (λ c d. d.marks)
 MarksIn-next s b (Start policy) h k = record {
   cells = λ p i is. absurd (cc);
   filled = λ c p i is. absurd (cc);

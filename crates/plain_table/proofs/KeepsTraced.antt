@@ -1,26 +1,22 @@
 -- Behind each event the objects of a cycle are made, none is both old and born, only old ones are scanned, and what a
 -- variable, a global or a reference of one of them holds is one of them.
-use Rattle.std.proofs.Common.{◌≡◌, ◌≢◌, ◌⊎◌, ℕ, ◌+◌, ◌<◌, ◌==◌, nat_lt, Bool, true, false, Option, Some, None, IsTrue, IfSome, refl, ◌∙◌, sym, subst, inl, inr, arith}
+use Rattle.std.proofs.Common.{◌≡◌, ◌≢◌, ◌⊎◌, ℕ, ◌+◌, ◌<◌, ◌==◌, nat_lt, Bool, true, Option, Some, None, IsTrue, IfSome, refl, ◌∙◌, sym, subst, inl, inr, arith}
 use Rattle.std.proofs.lemmas.Option.{IfSome_then}
 use Rattle.plain_table.specs.declared.scripts.Policy.{Policy}
 use Rattle.plain_table.specs.declared.events.Act.{Act}
-use Rattle.plain_table.specs.declared.events.Act.TheVariants.{New, Drop, Get, Link, Take, Below, Abort, Put, Bind, Name, Look, Set, Swap, Forge, Publish, Mark, Evac, Scan, Start, Finish}
-use Rattle.plain_table.specs.declared.events.Space.{Space}
-use Rattle.plain_table.specs.declared.events.Space.TheVariants.{External, Trusted}
-use Rattle.plain_table.specs.declared.events.Field.{Field}
-use Rattle.plain_table.specs.declared.events.Field.TheVariants as field
+use Rattle.plain_table.specs.declared.events.Act.TheVariants.{New, Drop, Get, Link, Take, Below, Bind, Name, Look, Scan, Start, Finish}
+use Rattle.plain_table.specs.declared.events.Space.TheVariants.{External}
 use Rattle.plain_table.specs.declared.events.Spot.{Spot}
 use Rattle.plain_table.specs.declared.events.Spot.TheVariants.{Global, Ref}
-use Rattle.plain_table.specs.Index.{index_of}
 use Rattle.plain_table.specs.Places.{put_at, put_pair}
 use Rattle.plain_table.specs.Reachable.{By_global, By_variable, By_reference}
-use Rattle.plain_table.specs.Cycle.{Cycle, IsOld, marked_in, scanned_in}
+use Rattle.plain_table.specs.Cycle.{Cycle, IsOld, scanned_in}
 use Rattle.plain_table.specs.Table.{Table, least_free}
 use Rattle.plain_table.specs.Finish.{IsReachable, CanFinish, started}
-use Rattle.plain_table.specs.Rows.{IsSpotOf, AreSafe, at_spot, object_in, free_below, with_object, with_bound, with_unbound, with_linked, row}
+use Rattle.plain_table.specs.Rows.{IsSpotOf, at_spot, object_in, free_below, with_object, with_bound, with_unbound, with_linked, row}
 use Rattle.plain_table.specs.Sound.{IsSound, CycleSound, TracedSound}
 use Rattle.plain_table.proofs.PlaceReads.{read_at, read_pair, put_at-same, put_at-grows}
-use Rattle.plain_table.proofs.CycleParts.{IfSome-and, IfSome-both, IfSome-marked, IfSome-born, IfSome-scanned, IfSome-touched, IfSome-evacuated, IfSome-aborted, IfSome-finished}
+use Rattle.plain_table.proofs.CycleParts.{IfSome-and, IfSome-changed, IfSome-changed_by, IfSome-finished}
 use Rattle.plain_table.proofs.Branches.{if_either, with_taken_either}
 
 -- the objects of a cycle, for a table
@@ -111,10 +107,9 @@ module _ (count : ℕ) (old : ℕ → Type 0) (born scans : ℕ → Bool) (refs 
 
 TracedIn-object : (s : Table) (b var : ℕ) → IsSound s → IfSome (with_object s b var).cycle (TracedIn (with_object s b var))
 TracedIn-object s b var h =
-    IfSome-born (CycleSound s) (TracedIn (with_object s b var)) s.cycle s.count
+    IfSome-changed (TracedIn (with_object s b var)) s.cycle h.cycle
     (λ c d. TracedSound-born s.count (IsOld c) c.born c.scans s.refs s.globals s.vars b var
     (λ k q e. let below : s.count < s.count = (h.objects.references s.count k q e).0 in omega arith) d.traced)
-    h.cycle
 
 -- what stands at a spot of a number, and what one of its variables holds
 at_spot-held : (s : Table) (b : ℕ) (spot : Spot) (c : Cycle) → IsSpotOf s b spot → TracedIn s c → (o : ℕ) → at_spot s spot ≡ Some o → IsOld c o ⊎ IsTrue (c.born o)
@@ -134,13 +129,6 @@ TracedIn-link s b (Ref object i) var h =
     IfSome_then s.cycle h.cycle
     (λ c d. TracedSound-linked s.count (IsOld c) c.born c.scans s.refs s.globals s.vars object i (object_in s b var) (object_in-held s b var c d.traced) d.traced)
 
-TracedIn-bound : (s : Table) (b : ℕ) (f : Field) (w : ℕ) → IsSound s → IfSome (with_bound s b f w).cycle (TracedIn (with_bound s b f w))
-TracedIn-bound s b f w h = IfSome-touched (CycleSound s) (TracedIn s) s.cycle f w (λ c d. d.traced) h.cycle
-
-TracedIn-mark : (s : Table) (p : Space) (i : ℕ) → IsSound s →
-    IfSome (marked_in s.cycle p i) (TracedIn s)
-TracedIn-mark s p i h = IfSome-marked (CycleSound s) (TracedIn s) s.cycle p i (λ c d. d.traced) h.cycle
-
 -- each reachable object is made
 IsReachable-made : (s : Table) → IsSound s → (o : ℕ) → IsReachable s o → o < s.count
 IsReachable-made s h _ (By_global g o e) = (h.objects.roots g o e).1
@@ -159,9 +147,8 @@ TracedIn-start s policy h = record {
 
 TracedIn-scan : (s : Table) (o : ℕ) → IsSound s → IfSome s.cycle (λ c. IsOld c o) → IfSome (scanned_in s.cycle o) (TracedIn s)
 TracedIn-scan s o h is =
-    IfSome-scanned (λ c. CycleSound s c × IsOld c o) (TracedIn s) s.cycle o
-    (λ c d. TracedSound-scanned s.count (IsOld c) c.born c.scans s.refs s.globals s.vars o d.1 d.0.traced)
-    (IfSome-both (CycleSound s) (λ c. IsOld c o) s.cycle h.cycle is)
+    IfSome-changed_by (TracedIn s) s.cycle h.cycle is
+    (λ c d old. TracedSound-scanned s.count (IsOld c) c.born c.scans s.refs s.globals s.vars o old d.traced)
 
 -- behind any event
 pub TracedIn-next : (s : Table) (b : ℕ) (a : Act) → IsSound s → (row s b a).allowed → IfSome (row s b a).next.cycle (TracedIn (row s b a).next)
@@ -181,21 +168,13 @@ TracedIn-next s b (Take p) h k =
 TracedIn-next s b (Below start) h k =
     with_taken_either (λ t. IfSome t.cycle (TracedIn t)) s b External (free_below s start)
     (TracedIn-same s s.cycle h.cycle) (λ i. TracedIn-same s s.cycle h.cycle)
-TracedIn-next s b Abort h k = IfSome-aborted (CycleSound s) (TracedIn s) s.cycle (λ c d. d.traced) h.cycle
-TracedIn-next s b (Put p i tag value) h k = TracedIn-mark s p i h
 TracedIn-next s b (Bind f w) h k =
     if_either (λ t. IfSome t.cycle (TracedIn t)) (s.words f == 0) (with_bound s b f w) (with_unbound s b f w)
-    (TracedIn-bound s b f w h) (TracedIn-same s s.cycle h.cycle)
+    (IfSome-changed (TracedIn s) s.cycle h.cycle (λ c d. d.traced)) (TracedIn-same s s.cycle h.cycle)
 TracedIn-next s b (Name f) h k = TracedIn-same s s.cycle h.cycle
 TracedIn-next s b (Look p w tag) h k = TracedIn-same s s.cycle h.cycle
-TracedIn-next s b (Set w tag value) h k = TracedIn-mark s External (index_of w) h
-TracedIn-next s b (Swap w tag value) h k = TracedIn-mark s External (index_of w) h
-TracedIn-next s b (Forge number w) h k =
-    IfSome-touched (CycleSound s) (TracedIn s) s.cycle (field.External number) w (λ c d. d.traced) h.cycle
-TracedIn-next s b (Publish i) h k = TracedIn-mark s Trusted i h
-TracedIn-next s b (Mark p i) h k = TracedIn-mark s p i h
-TracedIn-next s b (Evac i number) h k = IfSome-evacuated (CycleSound s) (TracedIn s) s.cycle i number (λ c d. d.traced) h.cycle
-TracedIn-next s b (Scan o) h k =
-    TracedIn-scan s o h (IfSome_then s.cycle (IfSome-and (λ c. IsOld c o × (c.scans o ≡ false) × AreSafe s c o) s.cycle k) (λ c d. d.0))
+TracedIn-next s b (Scan o) h k = TracedIn-scan s o h (IfSome-and s.cycle k (λ c d. d.0))
 TracedIn-next s b (Start policy) h k = TracedIn-start s policy h
 TracedIn-next s b Finish h k = IfSome-finished (CanFinish s) _ s s.cycle k.1
+-- all others leave the objects of the cycle alone
+TracedIn-next s b _ h k = IfSome-changed (TracedIn s) s.cycle h.cycle (λ c d. d.traced)

@@ -28,7 +28,6 @@ pub mod SweptParts
 pub mod Finishes
 pub mod MakesMeets
 pub mod UsedPlaces
-pub mod EntriesIn
 pub mod CycleParts
 pub mod PlacedFields
 pub mod KeepsUsed

@@ -27,7 +27,7 @@ use Rattle.plain_table.proofs.CycleParts.{CycleSound-is}
 use Rattle.plain_table.proofs.PlacedFields.{IsPlaced-fresh, IsPlaced-shared}
 use Rattle.plain_table.proofs.Branches.{if_either, if_by, with_taken_either}
 use Rattle.plain_table.proofs.CellsStay.{id-stays, CellsSteady-same, CellsSteady-row}
-use Rattle.plain_table.proofs.CyclesStay.{CyclesSteady-same, CyclesSteady-touched, CyclesSteady-row}
+use Rattle.plain_table.proofs.CyclesStay.{CycleSteady-word, CyclesSteady-same, CyclesSteady-changed, CyclesSteady-row}
 
 -- an index outside the area stays outside it where the start stays and an abort stays
 pub is_from-stays : (a b : Bool) (x y : Option ℕ) (i : ℕ) → (IsTrue a → IsTrue b) → y ≡ x →
@@ -144,7 +144,7 @@ pub SafeSteady-row : (s : Table) (b : ℕ) (a : Act) (said : Reply) → IsSound 
     SafeSteady s (record { by = b; act = a; said = said }) (row s b a).next
 SafeSteady-row s b (Bind f w) said h k beside =
     if_by (SafeSteady s (record { by = b; act = Bind f w; said = said })) (s.words f == 0) (with_bound s b f w) (with_unbound s b f w)
-    (λ free. SafeSteady-bind s b f w said h k.0.2 (CellsSteady-same _ _ _ refl) (CyclesSteady-touched s.cycle f w))
+    (λ free. SafeSteady-bind s b f w said h k.0.2 (CellsSteady-same _ _ _ refl) (CyclesSteady-changed s.cycle (CycleSteady-word f w)))
     (λ taken. SafeSteady-words s (record { by = b; act = Bind f w; said = said }) (with_unbound s b f w) (CellsSteady-same _ _ _ refl)
     (CyclesSteady-same s.cycle) (λ g id bound. refl) (λ g v same ok. said-taken (s.words f == 0) (s.words f) said taken k.1 ok))
 SafeSteady-row s b (New var) said h k beside = SafeSteady-still s b (New var) said h k beside

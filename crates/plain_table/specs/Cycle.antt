@@ -2,6 +2,7 @@
 -- since its start, and the words that stood in fields since. What was reachable at its start is told by a copy of the
 -- references, globals, variables and words of that moment.
 use Rattle.std.specs.Prelude.{◌≡◌, ◌≢◌, ◌⊎◌, ℕ, Bool, true, false, nat_le, if◌then◌else◌, Option, Some, None, IsTrue}
+use Rattle.std.specs.Option.{option_map}
 use Rattle.plain_table.specs.declared.events.Space.{Space}
 use Rattle.plain_table.specs.declared.events.Field.{Field}
 use Rattle.plain_table.specs.Places.{object_of, put_at, put_entry, put_field}
@@ -50,28 +51,41 @@ is_in_area cycle i = is_from (start_in cycle) i
 abbrev pub moves_from : Cycle → Option ℕ
 moves_from c = if c.aborted then None else c.start
 
--- what an event leaves of the cycle, where there is one: an index marked, an object born or scanned, a word come into
--- a field, an evacuation entry of a field, and the compaction aborted
+-- what an event changes in a cycle: an index marked, an object born or scanned, a word come into a field, an evacuation
+-- entry of a field, and the compaction aborted
+abbrev pub with_mark : Space → ℕ → Cycle → Cycle
+with_mark p i c = record c { marks = put_entry c.marks p i true }
+
+abbrev pub with_birth : ℕ → Cycle → Cycle
+with_birth o c = record c { born = put_at c.born o true }
+
+abbrev pub with_scan : ℕ → Cycle → Cycle
+with_scan o c = record c { scans = put_at c.scans o true }
+
+abbrev pub with_word : Field → ℕ → Cycle → Cycle
+with_word f w c = record c { came = put_field c.came f (put_at (c.came f) w true) }
+
+abbrev pub with_entry : ℕ → ℕ → Cycle → Cycle
+with_entry i number c = record c { evac = put_at c.evac i (Some number); visited = put_at c.visited number true }
+
+abbrev pub with_abort : Cycle → Cycle
+with_abort c = record c { aborted = true }
+
+-- each change, where a cycle is under way
 abbrev pub marked_in : Option Cycle → Space → ℕ → Option Cycle
-marked_in None p i = None
-marked_in (Some c) p i = Some (record c { marks = put_entry c.marks p i true })
+marked_in cycle p i = option_map (with_mark p i) cycle
 
 abbrev pub born_in : Option Cycle → ℕ → Option Cycle
-born_in None o = None
-born_in (Some c) o = Some (record c { born = put_at c.born o true })
+born_in cycle o = option_map (with_birth o) cycle
 
 abbrev pub scanned_in : Option Cycle → ℕ → Option Cycle
-scanned_in None o = None
-scanned_in (Some c) o = Some (record c { scans = put_at c.scans o true })
+scanned_in cycle o = option_map (with_scan o) cycle
 
 abbrev pub touched_in : Option Cycle → Field → ℕ → Option Cycle
-touched_in None f w = None
-touched_in (Some c) f w = Some (record c { came = put_field c.came f (put_at (c.came f) w true) })
+touched_in cycle f w = option_map (with_word f w) cycle
 
 abbrev pub evacuated_in : Option Cycle → ℕ → ℕ → Option Cycle
-evacuated_in None i number = None
-evacuated_in (Some c) i number = Some (record c { evac = put_at c.evac i (Some number); visited = put_at c.visited number true })
+evacuated_in cycle i number = option_map (with_entry i number) cycle
 
 abbrev pub aborted_in : Option Cycle → Option Cycle
-aborted_in None = None
-aborted_in (Some c) = Some (record c { aborted = true })
+aborted_in cycle = option_map with_abort cycle

@@ -1,6 +1,6 @@
-use Rattle.std.proofs.Common.{Option, Some, ap, refl, ◌∙◌}
+use Rattle.std.proofs.Common.{ap, ◌∙◌}
 use Rattle.plain_table.specs.Kept.{shown}
-use Rattle.plain_table.specs.Cycle.{Cycle, aborted_in}
+use Rattle.plain_table.specs.Cycle.{with_abort}
 use Rattle.plain_table.specs.contracts.state.State.{the_view}
 use Rattle.plain_table.proofs.CycleSets.{shown-cycle, shown-no_cycle}
 use Rattle.plain_table.proofs.state.State.abort.Goals as goal
@@ -8,6 +8,6 @@ use Rattle.plain_table.proofs.state.State.abort.Goals.{in-Some, in_default}
 
 pub returns-clause-table : goal.returns-clause-table
 returns-clause-table c = elim c.match-self.branch [
-  | in-Some w ↦ ap (λ s. shown (the_view s)) w.self-inside-is ∙ shown-cycle _ c.args.self.now w.in-Some.cycle w.abort.new.self (λ (k : Option Cycle). aborted_in k) c.self.view_is w.in-Some.is (ap Some w.abort.ensures)
-  | in_default w ↦ ap (λ s. shown (the_view s)) w.self-inside-is ∙ shown-no_cycle _ c.args.self.now (λ (k : Option Cycle). aborted_in k) c.self.view_is w.in_default.is refl
+  | in-Some w ↦ ap (λ s. shown (the_view s)) w.self-inside-is ∙ shown-cycle _ c.args.self.now w.in-Some.cycle w.abort.new.self with_abort c.self.view_is w.in-Some.is w.abort.ensures
+  | in_default w ↦ ap (λ s. shown (the_view s)) w.self-inside-is ∙ shown-no_cycle _ c.args.self.now with_abort c.self.view_is w.in_default.is
 ]
