@@ -28,18 +28,12 @@ pub at-from_Contains : {A : Type 0} (entries : List (ℕ × A)) → IsStrictlySo
 at-from_Contains entries sorted k v is =
     lookup-from_Contains (eq_by_cmp_equiv nat_cmp_total) k v entries (IsDistinct-from_sorted nat_cmp (keys_of entries) sorted) is
 
-pub at_iff : {A : Type 0} (entries : List (ℕ × A)) → IsStrictlySortedBy nat_cmp (keys_of entries) → (k : ℕ) (v : A) → (at entries k ≡ Some v) ↔ Contains entries (k, v)
-at_iff entries sorted k v = (Contains-from_at entries k v, at-from_Contains entries sorted k v)
-
 pub Contains-from_at_pair : {A : Type 0} (entries : List ((ℕ × ℕ) × A)) (m i : ℕ) (v : A) → at_pair entries m i ≡ Some v → Contains entries ((m, i), v)
 Contains-from_at_pair entries m i v is = Contains-from_lookup (tells_apart pair_cmp_exact) (m, i) v entries is
 
 pub at_pair-from_Contains : {A : Type 0} (entries : List ((ℕ × ℕ) × A)) → IsStrictlySortedBy pair_cmp (keys_of entries) → (m i : ℕ) (v : A) → Contains entries ((m, i), v) → at_pair entries m i ≡ Some v
 at_pair-from_Contains entries sorted m i v is =
     lookup-from_Contains (eq_by_cmp_equiv pair_cmp_total) (m, i) v entries (IsDistinct-from_sorted pair_cmp (keys_of entries) sorted) is
-
-pub at_pair_iff : {A : Type 0} (entries : List ((ℕ × ℕ) × A)) → IsStrictlySortedBy pair_cmp (keys_of entries) → (m i : ℕ) (v : A) → (at_pair entries m i ≡ Some v) ↔ Contains entries ((m, i), v)
-at_pair_iff entries sorted m i v = (Contains-from_at_pair entries m i v, at_pair-from_Contains entries sorted m i v)
 
 pub has_iff : (keys : List ℕ) (i : ℕ) → (has keys i ≡ true) ↔ Contains keys i
 has_iff keys i = (Contains-from_any (tells_apart exact_unsigned) i keys, list_any-from_Contains (eq_by_cmp_equiv nat_cmp_total) i keys)

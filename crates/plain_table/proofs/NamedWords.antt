@@ -1,14 +1,12 @@
 -- The words that name an index, found among those that stood in fields at the start of a cycle and those that came since.
-use Rattle.std.specs.Prelude.{◌≡◌, ◌≢◌, ◌↔◌, ℕ, ◌/◌, ◌==◌, Bool, true, false, ◌||◌, List, Option, Some, None, unwrap_or, IsTrue}
+use Rattle.std.specs.Prelude.{◌≡◌, ◌≢◌, ◌↔◌, ℕ, ◌/◌, ◌==◌, Bool, true, false, List, Option, Some, None, unwrap_or, IsTrue}
 use Rattle.std.specs.List.{All, list_any}
-use Rattle.std.proofs.Common.{refl, sym, ap, ◌∙◌, eq-eqb, eqb-true, inl, inr}
+use Rattle.std.proofs.Common.{refl, sym, ap, ◌∙◌, eq-eqb, eqb-true}
 use Rattle.std.proofs.lemmas.List.Elements.{All-contains}
-use Rattle.plain_table.specs.declared.events.Space.{Space}
 use Rattle.plain_table.specs.declared.events.Space.TheVariants.{External, Trusted}
 use Rattle.plain_table.specs.declared.events.Field.TheVariants as field
 use Rattle.plain_table.specs.Index.{index_of}
 use Rattle.plain_table.specs.Entries.{at, word_at}
-use Rattle.plain_table.specs.Rows.{IsNamed}
 use Rattle.plain_table.specs.Kept.{KeptCycle, KeptOrigin, shown_cycle}
 use Rattle.plain_table.specs.Named.{CameNamed, StoodNamed, WasReachable}
 use Rattle.plain_table.proofs.EntryLists.{Contains-from_at, list_any-pairs}
@@ -82,13 +80,3 @@ module _ (k : KeptCycle) (i : ℕ) (test : Bool) where
       found : CameNamed (shown_cycle k) Trusted i → IsTrue test
       found (field.External n, w, space, names, came) = absurd (cc)
       found (field.Trusted n, w, space, names, came) = is ∙ (list_any-pairs (names_index i) k.trusted_came).1 (n, w, came, eq-eqb (index_of w) i names)
-
--- a word that names an index stood in its field, or it came
-pub IsNamed-iff : (k : KeptCycle) (p : Space) (i : ℕ) (stood came : Bool) → IsTrue stood ↔ StoodNamed k.origin p i → IsTrue came ↔ CameNamed (shown_cycle k) p i →
-    IsTrue (stood || came) ↔ IsNamed (shown_cycle k) p i
-IsNamed-iff k p i true came says tells = (λ h. let s = says.0 refl in (s.0, _, s.1, s.2, inl (s.4, refl, s.3)), λ named. refl)
-IsNamed-iff k p i false came says tells = (λ h. let s = tells.0 h in (s.0, s.1, s.2, s.3, inr s.4), found)
-  where
-    found : IsNamed (shown_cycle k) p i → IsTrue came
-    found (f, w, space, names, inl stood) = let is : false ≡ true = says.1 (f, space, ap index_of stood.1 ∙ names, λ zero. stood.2 (sym stood.1 ∙ zero), stood.0) in absurd (cc)
-    found (f, w, space, names, inr came) = tells.1 (f, w, space, names, came)
