@@ -1,5 +1,5 @@
 -- One more call of a reader, and of a writer.
-use Rattle.std.proofs.Common.{◌≡◌, ◌≢◌, ℕ, ◌+◌, ◌*◌, ◌-◌, ◌^◌, ◌%◌, ◌≤◌, ◌<◌, ◌⊎◌, inl, inr, ◌==◌, Bool, true, false, if◌then◌else◌, List, [], ◌∷◌, ◌++◌, length, sym, ap, ◌∙◌, subst, arith, length-append, length-set}
+use Rattle.std.proofs.Common.{◌≡◌, ◌≢◌, ℕ, ◌+◌, ◌*◌, ◌-◌, ◌^◌, ◌%◌, ◌≤◌, ◌<◌, ◌⊎◌, inl, inr, ◌==◌, Bool, true, false, if◌then◌else◌, List, [], ◌∷◌, ◌++◌, length, sym, ap, ◌∙◌, subst, arith, length-append}
 use Rattle.std.proofs.lemmas.Bool.Decides.{nat_tests}
 use Rattle.code_steps.specs.declared.view.View.{View}
 use Rattle.code_steps.specs.declared.view.Store.{Store}
@@ -21,9 +21,6 @@ lengths_grown ls i more low =
     let c = total_lengths (grown_at ls i more) in
     let d = total_ones more in
     omega arith
-
-pub entries_grown : {A : Type 0} (ls : List (List A)) (i : ℕ) (more : List A) → length (grown_at ls i more) ≡ length ls
-entries_grown ls i more = length-set ls i (list_at ls i ++ more)
 
 module _ (before v w : View) (r first second : ℕ) (c : ReadCounts) (was : ReadCalls before r v c) (entries : length v.seen ≡ 4) (entries_shown : length v.shown ≡ 4) (same : SameSeat v w) (shown : w.shown ≡ grown_at v.shown (r % 4) (first ∷ second ∷ [])) (looked : Looked v (r % 4) w) where
   two_more : 2 * (r + 1) ≤ total length w.shown

@@ -8,9 +8,6 @@ use Rattle.code_steps.proofs.Prefixes.{grown_twice}
 
 -- a load of the sequence, of each number, and of the sequence again
 module _ (v v1 v2 v3 v4 : View) (at first code entry second : ℕ) (low : at < length v.seen) (low_shown : at < length v.shown) (t1 : LoadedSequence v at first v1) (e2 : v2 ≡ record v1 { code = code }) (e3 : v3 ≡ record v2 { entry = entry }) (t4 : LoadedSequence v3 at second v4) where
-  both_loaded : v3 ≡ record v1 { code = code; entry = entry }
-  both_loaded = e3 ∙ ap (λ (u : View). record u { entry = entry }) e2
-
   again : LoadedSequence (record v1 { code = code; entry = entry }) at second v4
   again = subst (λ (u : View). LoadedSequence u at second v4) (e3 ∙ ap (λ (u : View). record u { entry = entry }) e2) t4
 

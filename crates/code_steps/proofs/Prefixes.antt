@@ -35,9 +35,6 @@ module _ {A : Type 0} where
   pub starts_self : (xs : List A) → StartsWith xs xs
   starts_self xs = ([], sym (append-nil xs))
 
-  pub starts_more : (xs ys zs : List A) → StartsWith xs ys → StartsWith (xs ++ zs) ys
-  starts_more xs ys zs (r, is) = (r ++ zs, ap (λ l. l ++ zs) is ∙ append_assoc ys r zs)
-
   pub starts_trans : (xs ys zs : List A) → StartsWith xs ys → StartsWith ys zs → StartsWith xs zs
   starts_trans xs ys zs (r, is) (q, was) = (q ++ r, is ∙ (ap (λ l. l ++ r) was ∙ append_assoc zs q r))
 

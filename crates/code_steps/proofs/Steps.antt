@@ -12,7 +12,7 @@ use Rattle.code_steps.specs.Lists.{Pair, total, list_at, all_stores}
 use Rattle.code_steps.specs.Views.{spent}
 use Rattle.code_steps.specs.Rule.{sequence_word, holds_at, Shows, Knows, Kept, Ruled}
 use Rattle.code_steps.proofs.Totals.{total_set, both_among}
-use Rattle.code_steps.proofs.Prefixes.{at_each, starts_self}
+use Rattle.code_steps.proofs.Prefixes.{at_each}
 use Rattle.code_steps.proofs.Frame.{SameWords, Changes, shows_same, frame}
 
 -- what holds of each view holds after one is set
@@ -103,9 +103,6 @@ module _ (words now : List ℕ) (views : List View) (id : ℕ) (v w : View) (lon
 
 pub same_words : (words : List ℕ) (i : ℕ) → SameWords words words i
 same_words words i = record { sequence = refl; code = refl; entry = refl }
-
-pub no_change : (lists : List (List Pair)) (words : List ℕ) (i : ℕ) → Changes lists lists words words i
-no_change lists words i = record { count = refl; grows = λ j. starts_self (list_at lists j); elsewhere = λ j ne. same_words words j; up = omega arith; still = λ _ _. (refl, refl) }
 
 -- a step of a seat that holds nothing, which changes no word and stores nothing
 pub quiet : (words : List ℕ) (views : List View) (id : ℕ) (v w : View) (k : Kept words views) → get_elem? views id ≡ some v → 0 < v.parts → w.parts ≡ v.parts → v.holds ≡ false → w.holds ≡ false → w.own ≡ v.own
