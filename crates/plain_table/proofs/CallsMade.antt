@@ -1,12 +1,12 @@
--- The calls of a mutator, one call longer at the end.
-use Rattle.std.proofs.Common.{◌≡◌, ℕ, List, [], ◌∷◌, ◌++◌, Option, refl, ◌∙◌, ap, subst, append_assoc}
+-- Histories, variables, tickets and calls that go on: one list of events after another.
+use Rattle.std.proofs.Common.{◌≡◌, ℕ, List, [], ◌∷◌, ◌++◌, Option, refl, sym, ◌∙◌, ap, subst, append_assoc}
 use Rattle.plain_table.specs.declared.scripts.Op.{Op}
 use Rattle.plain_table.specs.declared.reports.Reply.{Reply}
 use Rattle.plain_table.specs.declared.events.Event.{Event}
 use Rattle.plain_table.specs.Cycle.{Cycle}
 use Rattle.plain_table.specs.Table.{Table}
 use Rattle.plain_table.specs.History.{IsLegalHistory, after, next}
-use Rattle.plain_table.specs.Shapes.{Held, IsShape, MakesCalls, held_after, held_next, ticket_after}
+use Rattle.plain_table.specs.Shapes.{Held, IsShape, MakesCalls, OwnTicket, held_after, held_next, own_after, own_next}
 
 -- a history behind another one
 pub after-append : (s : Table) (es fs : List Event) → after s (es ++ fs) ≡ after (after s es) fs
@@ -21,40 +21,42 @@ pub held_after-append : (held : Held) (es fs : List Event) → held_after held (
 held_after-append held [] fs = refl
 held_after-append held (e ∷ es) fs = held_after-append (held_next held e.act e.said) es fs
 
--- the ticket behind calls, each with its own events
-abbrev pub ticket_behind : (b : ℕ) (cycle : Option Cycle) (held : Held) (ticket : Option ℕ) (calls : List Op) (replies : List Reply)
-    (es : List Event) → MakesCalls b cycle held ticket calls replies es → Option ℕ
-ticket_behind b cycle held ticket [] [] es made = ticket
-ticket_behind b cycle held ticket [] (r ∷ replies) es made = absurd made
-ticket_behind b cycle held ticket (c ∷ calls) [] es made = absurd made
-ticket_behind b cycle held ticket (c ∷ calls) (r ∷ replies) es made =
-    ticket_behind b cycle (held_after held made.0) (ticket_after ticket c r made.0) calls replies made.1 made.4
+pub own_after-append : (own : OwnTicket) (es fs : List Event) → own_after own (es ++ fs) ≡ own_after (own_after own es) fs
+own_after-append own [] fs = refl
+own_after-append own (e ∷ es) fs = own_after-append (own_next own e.act e.said) es fs
 
--- one call more, from the variables and the ticket that the calls before it left
-pub MakesCalls-push : (b : ℕ) (cycle : Option Cycle) (held : Held) (ticket : Option ℕ) (calls : List Op) (replies : List Reply)
-    (es : List Event) (call : Op) (said : Reply) (own : List Event) (made : MakesCalls b cycle held ticket calls replies es) →
-    IsShape b cycle (held_after held es) (ticket_behind b cycle held ticket calls replies es made) call said own →
-    MakesCalls b cycle held ticket (calls ++ call ∷ []) (replies ++ said ∷ []) (es ++ own)
-MakesCalls-push b cycle held ticket [] [] es call said own made shape =
-    let here : IsShape b cycle held ticket call said own =
-    subst (λ (before : List Event). IsShape b cycle (held_after held before) ticket call said own) made shape in
-    (own, [], ap (λ (before : List Event). before ++ own) made ∙ own_alone own, here, refl)
-  where
-    own_alone : (es : List Event) → es ≡ es ++ []
-    own_alone [] = refl
-    own_alone (e ∷ es) = ap (λ (more : List Event). e ∷ more) (own_alone es)
-MakesCalls-push b cycle held ticket [] (r ∷ replies) es call said own made shape = absurd made
-MakesCalls-push b cycle held ticket (c ∷ calls) [] es call said own made shape = absurd made
-MakesCalls-push b cycle held ticket (c ∷ calls) (r ∷ replies) es call said own made shape =
+append_nothing : (es : List Event) → es ≡ es ++ []
+append_nothing [] = refl
+append_nothing (e ∷ es) = ap (λ (more : List Event). e ∷ more) (append_nothing es)
+
+-- calls and then calls, from the variables and the ticket that the first ones left
+pub MakesCalls-append : (b : ℕ) (cycle : Option Cycle) (held : Held) (own : OwnTicket) (calls more : List Op) (replies others : List Reply)
+    (es fs : List Event) → MakesCalls b cycle held own calls replies es →
+    MakesCalls b cycle (held_after held es) (own_after own es) more others fs →
+    MakesCalls b cycle held own (calls ++ more) (replies ++ others) (es ++ fs)
+MakesCalls-append b cycle held own [] more [] others es fs made then_made =
+    subst (λ (before : List Event). MakesCalls b cycle held own more others (before ++ fs)) (sym made)
+    (subst (λ (before : List Event). MakesCalls b cycle (held_after held before) (own_after own before) more others fs) made then_made)
+MakesCalls-append b cycle held own [] more (r ∷ replies) others es fs made then_made = absurd made
+MakesCalls-append b cycle held own (c ∷ calls) more [] others es fs made then_made = absurd made
+MakesCalls-append b cycle held own (c ∷ calls) more (r ∷ replies) others es fs made then_made =
     let first = made.0 in
-    let others = made.1 in
-    let later : Option ℕ = ticket_after ticket c r first in
-    let rest : IsShape b cycle (held_after (held_after held first) others) (ticket_behind b cycle (held_after held first) later calls replies others made.4) call said own =
-    subst (λ (h : Held). IsShape b cycle h (ticket_behind b cycle (held_after held first) later calls replies others made.4) call said own)
-    (ap (held_after held) made.2 ∙ held_after-append held first others) shape in (
+    let later = made.1 in (
       first,
-      others ++ own,
-      ap (λ (before : List Event). before ++ own) made.2 ∙ append_assoc first others own,
+      later ++ fs,
+      ap (λ (before : List Event). before ++ fs) made.2 ∙ append_assoc first later fs,
       made.3,
-      MakesCalls-push b cycle (held_after held first) later calls replies others call said own made.4 rest,
+      MakesCalls-append b cycle (held_after held first) (own_after own first) calls more replies others later fs made.4
+          (subst (λ (h : Held). MakesCalls b cycle h (own_after (own_after own first) later) more others fs)
+          (ap (held_after held) made.2 ∙ held_after-append held first later)
+          (subst (λ (t : OwnTicket). MakesCalls b cycle (held_after held es) t more others fs)
+          (ap (own_after own) made.2 ∙ own_after-append own first later) then_made)),
     )
+
+-- one call more
+pub MakesCalls-push : (b : ℕ) (cycle : Option Cycle) (held : Held) (own : OwnTicket) (calls : List Op) (replies : List Reply)
+    (es : List Event) (call : Op) (said : Reply) (fs : List Event) → MakesCalls b cycle held own calls replies es →
+    IsShape b cycle (held_after held es) (own_after own es).ticket call said fs →
+    MakesCalls b cycle held own (calls ++ call ∷ []) (replies ++ said ∷ []) (es ++ fs)
+MakesCalls-push b cycle held own calls replies es call said fs made shape =
+    MakesCalls-append b cycle held own calls (call ∷ []) replies (said ∷ []) es fs made (fs, [], append_nothing fs, shape, refl)

@@ -2,7 +2,7 @@
 -- a phase, in which the events of each mutator are the shapes of its calls, each once and in its order, with the
 -- replies of the outcome, those of each marker are scans, and those of the meet come last; and the totals of the
 -- outcome are those of the table behind it.
-use Rattle.std.specs.Prelude.{◌≡◌, ◌⊎◌, ℕ, zero, suc, ◌+◌, ◌^◌, ◌%◌, ◌<◌, ◌≤◌, ◌==◌, Bool, true, false, List, [], ◌∷◌, ◌++◌, length, Option, slice_index_or, IsTrue}
+use Rattle.std.specs.Prelude.{◌≡◌, ◌≢◌, ◌⊎◌, ℕ, zero, suc, ◌+◌, ◌^◌, ◌%◌, ◌<◌, ◌≤◌, ◌==◌, Bool, true, false, List, [], ◌∷◌, ◌++◌, length, Option, slice_index_or, IsTrue}
 use Rattle.std.specs.List.{All, Any, filter, count_by}
 use Rattle.plain_table.specs.declared.scripts.Limits.{Limits}
 use Rattle.plain_table.specs.declared.scripts.Meet.{Meet}
@@ -12,15 +12,17 @@ use Rattle.plain_table.specs.declared.scripts.Script.{Script}
 use Rattle.plain_table.specs.declared.reports.PhaseReport.{PhaseReport}
 use Rattle.plain_table.specs.declared.reports.Outcome.{Outcome}
 use Rattle.plain_table.specs.declared.events.Act.{Act}
-use Rattle.plain_table.specs.declared.events.Act.TheVariants.{Put, Scan}
+use Rattle.plain_table.specs.declared.events.Act.TheVariants.{Link, Put, Scan}
 use Rattle.plain_table.specs.declared.events.Cell.{Cell}
 use Rattle.plain_table.specs.declared.events.Event.{Event}
 use Rattle.plain_table.specs.declared.events.Space.TheVariants.{External, Trusted}
+use Rattle.plain_table.specs.declared.events.Spot.TheVariants.{Ref}
 use Rattle.plain_table.specs.Reachable.{IsRoot}
 use Rattle.plain_table.specs.Table.{Table, opening, limit_of}
+use Rattle.plain_table.specs.Finish.{IsReachable}
 use Rattle.plain_table.specs.Rows.{value_at}
 use Rattle.plain_table.specs.History.{IsLegalHistory, after}
-use Rattle.plain_table.specs.Shapes.{MakesCalls}
+use Rattle.plain_table.specs.Shapes.{MakesCalls, with_ticket}
 use Rattle.plain_table.specs.Scans.{Scans, Rest, IsReadBeside}
 use Rattle.plain_table.specs.Sweeps.{MeetBelongs, cells_in, linked_behind}
 
@@ -44,19 +46,26 @@ IsMarker limits b = (8 ≤ b) × (b < 8 + limits.markers)
 abbrev pub IsScannedIn : Limits → List Event → ℕ → Type 0
 IsScannedIn limits events o = Any (λ (e : Event). IsMarker limits e.by × (e.act ≡ Scan o)) events
 
+-- the events link no object, and not nothing either, to a reference
+abbrev pub LinkNoReference : List Event → Type 0
+LinkNoReference events = All (λ (e : Event). (o k : ℕ) (var : Option ℕ) → e.act ≢ Link (Ref o k) var) events
+
 -- a part of the history and a report are those of a phase that begins at the table s. `begins` tells that its meet
 -- before was the start of a cycle, and `linked` what was linked since the last one
 pub record PhaseBelongs (limits : Limits) (begins : Bool) (linked : List ℕ) (s : Table) (phase : Phase) (part : Part) (report : PhaseReport) : Type 0 where
   -- the events of each mutator are its calls, with the replies that are reported
   pub calls : (b : ℕ) → b < limits.mutators →
-      MakesCalls b s.cycle (s.vars b) (s.ticket b) (slice_index_or phase.calls b []) (slice_index_or report.replies b [])
+      MakesCalls b s.cycle (s.vars b) (with_ticket (s.ticket b)) (slice_index_or phase.calls b []) (slice_index_or report.replies b [])
       (events_by b part.beside)
   -- the events of each marker are scans, of any objects
-  pub scans : (b : ℕ) → IsMarker limits b → Scans (λ t o. Unit {0}) IsReadBeside b Rest s part.beside
+  pub scans : (b : ℕ) → IsMarker limits b → Scans (λ t o. Unit {0}) IsReadBeside b Rest s part.beside Rest
   -- no other number makes an event beside them
   pub numbers : All (λ (e : Event). (e.by < limits.mutators) ⊎ IsMarker limits e.by) part.beside
   -- in the first phase of a cycle markers scan each root
   pub roots : IsTrue begins → 1 ≤ limits.markers → (o : ℕ) → IsRoot s.globals s.vars o → IsScannedIn limits part.beside o
+  -- and each object that is reachable at its start, where nothing is linked to a reference concurrently
+  pub old : IsTrue begins → 1 ≤ limits.markers → LinkNoReference part.beside → (o : ℕ) → IsReachable s o →
+      IsScannedIn limits part.beside o
   pub lists : length report.replies ≡ limits.mutators
   pub meet : MeetBelongs (linked_behind s linked part.beside) (after s part.beside) phase.meet part.meet report.meet
 

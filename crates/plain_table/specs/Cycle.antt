@@ -34,6 +34,10 @@ IsOld c o = Reaches c.refs c.globals c.vars o
 abbrev pub IsTouched : Cycle → Field → ℕ → Type 0
 IsTouched c f w = (IsOld c (object_of f) × (c.words f ≡ w) × (w ≢ 0)) ⊎ IsTrue (c.came f w)
 
+-- a word that stood in the field in this cycle, 0 included: the one of its start, or one that came into it since
+abbrev pub HasStood : Cycle → Field → ℕ → Type 0
+HasStood c f w = (c.words f ≡ w) ⊎ IsTrue (c.came f w)
+
 -- the index is at or above a start
 abbrev pub is_from : Option ℕ → ℕ → Bool
 is_from None i = false

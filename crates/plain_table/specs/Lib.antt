@@ -6,7 +6,6 @@ pub mod Cycle
 pub mod Table
 pub mod Finish
 pub mod Holders
-pub mod KeptFields
 pub mod Rows
 pub mod History
 pub mod Shapes
@@ -17,14 +16,4 @@ pub mod Sound
 pub mod Words
 pub mod Shows
 pub mod Ranges
-pub mod Entries
-pub mod Rounds
-pub mod Kept
-pub mod KeptSwept
-pub mod Steps
-pub mod Named
-pub mod Steady
-pub mod Stored
-pub mod Causes
-pub mod Laws
-pub mod WordLaws
+pub mod Near

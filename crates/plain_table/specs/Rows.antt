@@ -1,7 +1,7 @@
 -- The table of events: one equation an act, with its three columns. `allowed` says where the event is legal, `reply`
 -- what it answers, and `next` the table behind it. What `next` does not name stays as it was. Before the rows stand the
 -- words that they are said in.
-use Rattle.std.specs.Prelude.{◌≡◌, ◌⊎◌, ℕ, ◌+◌, ◌^◌, ◌<◌, ◌≤◌, ◌==◌, nat_lt, true, false, ◌&&◌, if◌then◌else◌, Option, Some, None, IsTrue, IsSome, IsSomeAnd, IfSome, count_ones}
+use Rattle.std.specs.Prelude.{◌≡◌, ◌⊎◌, ℕ, ◌+◌, ◌^◌, ◌<◌, ◌≤◌, ◌==◌, nat_lt, nat_le, Bool, true, false, ◌&&◌, if◌then◌else◌, Option, Some, None, IsTrue, IsSome, IsSomeAnd, IfSome}
 use Rattle.std.specs.Option.{option_map, option_map_or}
 use Rattle.plain_table.specs.declared.events.Act.{Act}
 use Rattle.plain_table.specs.declared.events.Act.TheVariants.{New, Drop, Get, Link, Take, Below, Abort, Put, Bind, Name, Look, Set, Swap, Forge, Publish, Mark, Evac, Scan, Start, Finish}
@@ -20,9 +20,13 @@ use Rattle.plain_table.specs.Cycle.{Cycle, IsOld, IsTouched, is_from, start_in, 
 use Rattle.plain_table.specs.Table.{Table, least_free}
 use Rattle.plain_table.specs.Finish.{id_at, IsOwn, CanFinish, started, finished}
 
--- a tag is a byte with exactly four set bits
+-- a tag is a byte other than 0
 abbrev pub IsTag : ℕ → Type 0
-IsTag tag = (tag < 256) × (count_ones tag ≡ 4)
+IsTag tag = (1 ≤ tag) × (tag < 256)
+
+-- a tag is asked where it lies in the asked range, which has both of its ends
+abbrev pub is_asked : ℕ → ℕ → ℕ → Bool
+is_asked first last tag = nat_le first tag && nat_le tag last
 
 -- a mutator holds an object where one of its 16 variables does
 abbrev pub Holds : Table → ℕ → ℕ → Type 0
@@ -54,17 +58,18 @@ only_below start (Some i) = if nat_lt i start then Some i else None
 abbrev pub free_below : Table → ℕ → Option ℕ
 free_below s start = only_below start (least_free s External)
 
--- what a look answers: null at index 0, the value of a shown cell with the tag, and else a fault
-abbrev pub seen_under : Option Cell → ℕ → Reply
-seen_under None tag = reply.Fault
-seen_under (Some c) tag = if c.shown && (c.tag == tag) then reply.Value c.value else reply.Fault
+-- what a look answers: null at index 0, the value of a shown cell whose tag is asked, and else a fault
+abbrev pub seen_under : Option Cell → ℕ → ℕ → Reply
+seen_under None first last = reply.Fault
+seen_under (Some c) first last = if c.shown && is_asked first last c.tag then reply.Value c.value else reply.Fault
 
-abbrev pub look : Table → Space → ℕ → ℕ → Reply
-look s p word tag = if index_of word == 0 then reply.Null else seen_under (s.cells p (index_of word)) tag
+abbrev pub look : Table → Space → ℕ → ℕ → ℕ → Reply
+look s p word first last =
+    if index_of word == 0 then reply.Null else seen_under (s.cells p (index_of word)) first last
 
--- a cell with the tag stands at the index that a word of the external space names
-abbrev pub HasCell : Table → ℕ → ℕ → Type 0
-HasCell s word tag = IsSomeAnd (s.cells External (index_of word)) (λ c. c.tag ≡ tag)
+-- a cell whose tag is asked stands at the index that a word of the external space names
+abbrev pub HasCell : Table → ℕ → ℕ → ℕ → Type 0
+HasCell s word first last = IsSomeAnd (s.cells External (index_of word)) (λ c. IsTrue (is_asked first last c.tag))
 
 -- the value of the cell at an index, and 0 where none stands
 abbrev pub value_at : Option Cell → ℕ
@@ -246,18 +251,18 @@ row s b (Name f) = record {
   reply = reply.Word (s.words f);
   next = s;
 }
-row s b (Look p word tag) = record {
+row s b (Look p word first last) = record {
   allowed = Unit {0};
-  reply = look s p word tag;
+  reply = look s p word first last;
   next = s;
 }
-row s b (Set word tag value) = record {
-  allowed = HasCell s word tag × (value < 2 ^ 48);
+row s b (Set word first last value) = record {
+  allowed = HasCell s word first last × (value < 2 ^ 48);
   reply = reply.Ok;
   next = with_value s (index_of word) value;
 }
-row s b (Swap word tag value) = record {
-  allowed = HasCell s word tag × (value < 2 ^ 48);
+row s b (Swap word first last value) = record {
+  allowed = HasCell s word first last × (value < 2 ^ 48);
   reply = reply.Value (value_at (s.cells External (index_of word)));
   next = with_value s (index_of word) value;
 }

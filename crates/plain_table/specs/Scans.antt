@@ -12,7 +12,7 @@ use Rattle.plain_table.specs.declared.events.Field.TheVariants as field
 use Rattle.plain_table.specs.declared.reports.Reply.TheVariants as reply
 use Rattle.plain_table.specs.Index.{index_of}
 use Rattle.plain_table.specs.Places.{space_of, object_of}
-use Rattle.plain_table.specs.Cycle.{IsTouched, is_in_area}
+use Rattle.plain_table.specs.Cycle.{HasStood, is_in_area}
 use Rattle.plain_table.specs.Table.{Table}
 use Rattle.plain_table.specs.Rows.{InCycle}
 use Rattle.plain_table.specs.History.{next}
@@ -22,9 +22,9 @@ use Rattle.plain_table.specs.Shapes.{event}
 abbrev pub AreFieldsOf : ℕ → List Field → Type 0
 AreFieldsOf o fields = (length fields ≡ 3) × ((f : Field) → object_of f ≡ o → Contains fields f)
 
--- a word that a marker reads: 0, or one that stood in the field in this cycle
+-- a word that a marker reads, concurrently with mutators: one that stood in the field in this cycle
 abbrev pub IsReadBeside : Table → Field → ℕ → Type 0
-IsReadBeside s f w = (w ≡ 0) ⊎ InCycle s (λ c. IsTouched c f w)
+IsReadBeside s f w = InCycle s (λ c. HasStood c f w)
 
 -- at a meet the word that stands in the field is read
 abbrev pub IsReadAtMeet : Table → Field → ℕ → Type 0
@@ -57,33 +57,37 @@ abbrev pub marked_at : ℕ → List Field → Field → ℕ → Scanner
 marked_at o fields (field.External number) w = Move o fields number w
 marked_at o fields (field.Trusted number) w = Visit o fields
 
--- the events of number b in the list are shapes of scans, of objects that it may scan and by words that it may read
-pub data Scans (MayScan : Table → ℕ → Type 0) (IsRead : Table → Field → ℕ → Type 0) (b : ℕ) : Scanner → Table → List Event → Type 0 where
-  Ends : (s : Table) → Scans MayScan IsRead b Rest s []
-  Others : (at : Scanner) (s : Table) (e : Event) (es : List Event) → e.by ≢ b →
-      Scans MayScan IsRead b at (next s e) es → Scans MayScan IsRead b at s (e ∷ es)
-  Begins : (o : ℕ) (fields : List Field) (s : Table) (es : List Event) → MayScan s o → AreFieldsOf o fields →
-      Scans MayScan IsRead b (Visit o fields) s es → Scans MayScan IsRead b Rest s es
-  Marks : (o : ℕ) (f : Field) (w : ℕ) (fields : List Field) (s : Table) (es : List Event) → IsRead s f w →
-      Scans MayScan IsRead b (marked_at o fields f w) (next s (event b (Mark (space_of f) (index_of w)) reply.Ok)) es →
-      Scans MayScan IsRead b (Visit o (f ∷ fields)) s (event b (Mark (space_of f) (index_of w)) reply.Ok ∷ es)
-  Passes : (o : ℕ) (f : Field) (w : ℕ) (fields : List Field) (s : Table) (es : List Event) → IsRead s f w →
-      s.cells (space_of f) (index_of w) ≡ None →
-      Scans MayScan IsRead b (marked_at o fields f w) s es → Scans MayScan IsRead b (Visit o (f ∷ fields)) s es
-  Stays : (o number w : ℕ) (fields : List Field) (s : Table) (es : List Event) → NeedNotMove s w →
-      Scans MayScan IsRead b (Visit o fields) s es → Scans MayScan IsRead b (Move o fields number w) s es
-  Takes : (o number w start i : ℕ) (fields : List Field) (s : Table) (es : List Event) → IsInArea s w →
-      Scans MayScan IsRead b (Fill o fields number i) (next s (event b (Below start) (reply.Index i))) es →
-      Scans MayScan IsRead b (Move o fields number w) s (event b (Below start) (reply.Index i) ∷ es)
-  Fills : (o number i : ℕ) (fields : List Field) (s : Table) (es : List Event) →
-      Scans MayScan IsRead b (Visit o fields) (next s (event b (Evac i number) reply.Ok)) es →
-      Scans MayScan IsRead b (Fill o fields number i) s (event b (Evac i number) reply.Ok ∷ es)
-  Fails : (o number w start : ℕ) (fields : List Field) (s : Table) (es : List Event) → IsInArea s w →
-      Scans MayScan IsRead b (GiveUp o fields) (next s (event b (Below start) reply.NoRoom)) es →
-      Scans MayScan IsRead b (Move o fields number w) s (event b (Below start) reply.NoRoom ∷ es)
-  Aborts : (o : ℕ) (fields : List Field) (s : Table) (es : List Event) →
-      Scans MayScan IsRead b (Visit o fields) (next s (event b Abort reply.Ok)) es →
-      Scans MayScan IsRead b (GiveUp o fields) s (event b Abort reply.Ok ∷ es)
-  Says : (o : ℕ) (s : Table) (es : List Event) →
-      Scans MayScan IsRead b Rest (next s (event b (Scan o) reply.Ok)) es →
-      Scans MayScan IsRead b (Visit o []) s (event b (Scan o) reply.Ok ∷ es)
+-- what a number that scans does with no event, at a table: it begins with an object that it may scan, passes over a word
+-- that it may read and that names no cell, and leaves a cell that need not move
+pub data Turns (MayScan : Table → ℕ → Type 0) (IsRead : Table → Field → ℕ → Type 0) (s : Table) : Scanner → Scanner → Type 0 where
+  Begins : (o : ℕ) (fields : List Field) → MayScan s o → AreFieldsOf o fields →
+      Turns MayScan IsRead s Rest (Visit o fields)
+  Passes : (o : ℕ) (f : Field) (w : ℕ) (fields : List Field) → IsRead s f w → s.cells (space_of f) (index_of w) ≡ None →
+      Turns MayScan IsRead s (Visit o (f ∷ fields)) (marked_at o fields f w)
+  Stays : (o number w : ℕ) (fields : List Field) → NeedNotMove s w →
+      Turns MayScan IsRead s (Move o fields number w) (Visit o fields)
+
+-- what number b does by an event, at the table before it
+pub data Makes (IsRead : Table → Field → ℕ → Type 0) (b : ℕ) (s : Table) : Event → Scanner → Scanner → Type 0 where
+  Marks : (o : ℕ) (f : Field) (w : ℕ) (fields : List Field) → IsRead s f w →
+      Makes IsRead b s (event b (Mark (space_of f) (index_of w)) reply.Ok) (Visit o (f ∷ fields)) (marked_at o fields f w)
+  Takes : (o number w start i : ℕ) (fields : List Field) → IsInArea s w →
+      Makes IsRead b s (event b (Below start) (reply.Index i)) (Move o fields number w) (Fill o fields number i)
+  Fills : (o number i : ℕ) (fields : List Field) →
+      Makes IsRead b s (event b (Evac i number) reply.Ok) (Fill o fields number i) (Visit o fields)
+  Fails : (o number w start : ℕ) (fields : List Field) → IsInArea s w →
+      Makes IsRead b s (event b (Below start) reply.NoRoom) (Move o fields number w) (GiveUp o fields)
+  Aborts : (o : ℕ) (fields : List Field) →
+      Makes IsRead b s (event b Abort reply.Ok) (GiveUp o fields) (Visit o fields)
+  Says : (o : ℕ) → Makes IsRead b s (event b (Scan o) reply.Ok) (Visit o []) Rest
+
+-- from one place of its work, at a table, the events of number b in the list bring it to another place, by objects that it
+-- may scan and words that it may read; events of others stand between
+pub data Scans (MayScan : Table → ℕ → Type 0) (IsRead : Table → Field → ℕ → Type 0) (b : ℕ) : Scanner → Table → List Event → Scanner → Type 0 where
+  Ends : (at : Scanner) (s : Table) → Scans MayScan IsRead b at s [] at
+  Others : (at : Scanner) (s : Table) (e : Event) (es : List Event) (to : Scanner) → e.by ≢ b →
+      Scans MayScan IsRead b at (next s e) es to → Scans MayScan IsRead b at s (e ∷ es) to
+  Turn : (at mid : Scanner) (s : Table) (es : List Event) (to : Scanner) → Turns MayScan IsRead s at mid →
+      Scans MayScan IsRead b mid s es to → Scans MayScan IsRead b at s es to
+  Make : (at mid : Scanner) (s : Table) (e : Event) (es : List Event) (to : Scanner) → e.by ≡ b → Makes IsRead b s e at mid →
+      Scans MayScan IsRead b mid (next s e) es to → Scans MayScan IsRead b at s (e ∷ es) to

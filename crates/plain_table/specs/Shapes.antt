@@ -18,6 +18,7 @@ use Rattle.plain_table.specs.declared.reports.Reply.TheVariants as reply
 use Rattle.plain_table.specs.Index.{index_of, word_of}
 use Rattle.plain_table.specs.Places.{put_at}
 use Rattle.plain_table.specs.Cycle.{Cycle, is_in_area}
+use Rattle.plain_table.specs.Finish.{is_at}
 
 -- the objects that the 16 variables of one mutator hold
 abbrev pub Held : Type 0
@@ -60,34 +61,34 @@ IsInit b cycle f tag value said events =
     ∷ event b (Bind f (word_of i)) said ∷ []))
 
 -- load: the name of the field, and a look at the word that it answers
-abbrev pub IsLoad : ℕ → Space → Field → ℕ → Reply → List Event → Type 0
-IsLoad b p f tag said events =
-    (w : ℕ) × (events ≡ event b (Name f) (reply.Word w) ∷ event b (Look p w tag) said ∷ [])
+abbrev pub IsLoad : ℕ → Space → Field → ℕ → ℕ → Reply → List Event → Type 0
+IsLoad b p f first last said events =
+    (w : ℕ) × (events ≡ event b (Name f) (reply.Word w) ∷ event b (Look p w first last) said ∷ [])
 
--- a call that finds no cell under its tag answers null or a fault
+-- a call that finds no cell of an asked tag answers null or a fault
 abbrev pub IsMiss : Reply → Type 0
 IsMiss said = (said ≡ reply.Null) ⊎ (said ≡ reply.Fault)
 
 -- store and swap by a field: its name, a look at the word that it answers, and where a value stands there, the write
-abbrev pub IsStore : ℕ → Field → ℕ → ℕ → Reply → List Event → Type 0
-IsStore b f tag value said events =
-    (w : ℕ) × ((IsMiss said × (events ≡ event b (Name f) (reply.Word w) ∷ event b (Look External w tag) said ∷ []))
+abbrev pub IsStore : ℕ → Field → ℕ → ℕ → ℕ → Reply → List Event → Type 0
+IsStore b f first last value said events =
+    (w : ℕ) × ((IsMiss said × (events ≡ event b (Name f) (reply.Word w) ∷ event b (Look External w first last) said ∷ []))
     ⊎ ((old : ℕ) × (events ≡ event b (Name f) (reply.Word w)
-    ∷ event b (Look External w tag) (reply.Value old)
-    ∷ event b (Set w tag value) said ∷ [])))
+    ∷ event b (Look External w first last) (reply.Value old)
+    ∷ event b (Set w first last value) said ∷ [])))
 
-abbrev pub IsSwap : ℕ → Field → ℕ → ℕ → Reply → List Event → Type 0
-IsSwap b f tag value said events =
-    (w : ℕ) × ((IsMiss said × (events ≡ event b (Name f) (reply.Word w) ∷ event b (Look External w tag) said ∷ []))
+abbrev pub IsSwap : ℕ → Field → ℕ → ℕ → ℕ → Reply → List Event → Type 0
+IsSwap b f first last value said events =
+    (w : ℕ) × ((IsMiss said × (events ≡ event b (Name f) (reply.Word w) ∷ event b (Look External w first last) said ∷ []))
     ⊎ ((old : ℕ) × (events ≡ event b (Name f) (reply.Word w)
-    ∷ event b (Look External w tag) (reply.Value old)
-    ∷ event b (Swap w tag value) said ∷ [])))
+    ∷ event b (Look External w first last) (reply.Value old)
+    ∷ event b (Swap w first last value) said ∷ [])))
 
 -- a store by a word: a look at it, and where a value stands there, the write
-abbrev pub IsRawSet : ℕ → ℕ → ℕ → ℕ → Reply → List Event → Type 0
-IsRawSet b w tag value said events =
-    (IsMiss said × (events ≡ event b (Look External w tag) said ∷ []))
-    ⊎ ((old : ℕ) × (events ≡ event b (Look External w tag) (reply.Value old) ∷ event b (Set w tag value) said ∷ []))
+abbrev pub IsRawSet : ℕ → ℕ → ℕ → ℕ → ℕ → Reply → List Event → Type 0
+IsRawSet b w first last value said events =
+    (IsMiss said × (events ≡ event b (Look External w first last) said ∷ []))
+    ⊎ ((old : ℕ) × (events ≡ event b (Look External w first last) (reply.Value old) ∷ event b (Set w first last value) said ∷ []))
 
 -- tnew: pending where the mutator has a ticket already, and else take, put and bind, or one take that finds it full
 abbrev pub IsTNew : ℕ → Option ℕ → Field → ℕ → ℕ → Reply → List Event → Type 0
@@ -128,25 +129,25 @@ IsShape b cycle held ticket (op.SetG g target) said events =
 IsShape b cycle held ticket (op.GetG into g) said events = events ≡ event b (Get into (Global g)) said ∷ []
 IsShape b cycle held ticket (op.Init var f tag value) said events =
     WithObject held var said events (λ o. IsInit b cycle (external_field o f) tag value said events)
-IsShape b cycle held ticket (op.Load var f tag) said events =
-    WithObject held var said events (λ o. IsLoad b External (external_field o f) tag said events)
-IsShape b cycle held ticket (op.Store var f tag value) said events =
-    WithObject held var said events (λ o. IsStore b (external_field o f) tag value said events)
-IsShape b cycle held ticket (op.Swap var f tag value) said events =
-    WithObject held var said events (λ o. IsSwap b (external_field o f) tag value said events)
+IsShape b cycle held ticket (op.Load var f first last) said events =
+    WithObject held var said events (λ o. IsLoad b External (external_field o f) first last said events)
+IsShape b cycle held ticket (op.Store var f first last value) said events =
+    WithObject held var said events (λ o. IsStore b (external_field o f) first last value said events)
+IsShape b cycle held ticket (op.Swap var f first last value) said events =
+    WithObject held var said events (λ o. IsSwap b (external_field o f) first last value said events)
 IsShape b cycle held ticket (op.Name var f) said events =
     WithObject held var said events (λ o. events ≡ event b (Name (external_field o f)) said ∷ [])
 IsShape b cycle held ticket (op.Forge var f word) said events =
     WithObject held var said events (λ o. events ≡ event b (Forge (2 * o + f) word) said ∷ [])
-IsShape b cycle held ticket (op.Raw word tag) said events = events ≡ event b (Look External word tag) said ∷ []
-IsShape b cycle held ticket (op.RawSet word tag value) said events = IsRawSet b word tag value said events
+IsShape b cycle held ticket (op.Raw word first last) said events = events ≡ event b (Look External word first last) said ∷ []
+IsShape b cycle held ticket (op.RawSet word first last value) said events = IsRawSet b word first last value said events
 IsShape b cycle held ticket (op.TNew var tag value) said events =
     WithObject held var said events (λ o. IsTNew b ticket (field.Trusted o) tag value said events)
 IsShape b cycle held ticket (op.TPub var) said events =
     WithObject held var said events (λ o. IsTPub b ticket (field.Trusted o) said events)
-IsShape b cycle held ticket (op.TLoad var tag) said events =
-    WithObject held var said events (λ o. IsLoad b Trusted (field.Trusted o) tag said events)
-IsShape b cycle held ticket (op.TRaw word tag) said events = events ≡ event b (Look Trusted word tag) said ∷ []
+IsShape b cycle held ticket (op.TLoad var first last) said events =
+    WithObject held var said events (λ o. IsLoad b Trusted (field.Trusted o) first last said events)
+IsShape b cycle held ticket (op.TRaw word first last) said events = events ≡ event b (Look Trusted word first last) said ∷ []
 IsShape b cycle held ticket (op.Share from to) said events =
     WithObject held from said events (λ o. WithObject held to said events (λ q.
     IsShare b cycle (field.Trusted o) (field.Trusted q) said events))
@@ -163,25 +164,41 @@ abbrev pub held_after : Held → List Event → Held
 held_after held [] = held
 held_after held (e ∷ es) = held_after (held_next held e.act e.said) es
 
--- the ticket behind a call: a new trusted cell that got its field is the mutator's to publish, once
-abbrev pub index_said : Reply → Option ℕ
-index_said (reply.Index i) = Some i
-index_said _ = None
+-- what a mutator has of a new trusted entry, by its own events: the index that it filled and has not bound yet, and the
+-- ticket that it may publish
+pub record OwnTicket : Type 0 where
+  pub filled : Option ℕ
+  pub ticket : Option ℕ
 
-abbrev pub index_taken : List Event → Option ℕ
-index_taken [] = None
-index_taken (e ∷ es) = index_said e.said
+-- between its calls a mutator has filled no index that it has not bound
+abbrev pub with_ticket : Option ℕ → OwnTicket
+with_ticket ticket = record { filled = None; ticket = ticket }
 
-abbrev pub ticket_after : Option ℕ → Op → Reply → List Event → Option ℕ
-ticket_after ticket (op.TNew var tag value) reply.Ok events = index_taken events
-ticket_after ticket (op.TPub var) reply.Ok events = None
-ticket_after ticket _ _ _ = ticket
+-- the bind of an index: the filled one is bound then, and becomes the ticket where the bind says ok
+abbrev pub ticket_said : Option ℕ → ℕ → Reply → Option ℕ
+ticket_said ticket i reply.Ok = Some i
+ticket_said ticket i _ = ticket
+
+abbrev pub own_bound : OwnTicket → ℕ → Reply → OwnTicket
+own_bound own i said =
+    if is_at own.filled i then (record { filled = None; ticket = ticket_said own.ticket i said }) else own
+
+-- the ticket after an event of its mutator, and after several
+abbrev pub own_next : OwnTicket → Act → Reply → OwnTicket
+own_next own (Put Trusted i tag value) said = record own { filled = Some i }
+own_next own (Bind (field.Trusted number) word) said = own_bound own (index_of word) said
+own_next own (Publish i) said = record own { ticket = None }
+own_next own _ said = own
+
+abbrev pub own_after : OwnTicket → List Event → OwnTicket
+own_after own [] = own
+own_after own (e ∷ es) = own_after (own_next own e.act e.said) es
 
 -- the events of a mutator are the shapes of its calls, in order, each once, with these replies
-abbrev pub MakesCalls : ℕ → Option Cycle → Held → Option ℕ → List Op → List Reply → List Event → Type 0
-MakesCalls b cycle held ticket [] [] events = events ≡ []
-MakesCalls b cycle held ticket (call ∷ calls) (said ∷ replies) events =
-    (own : List Event) × (others : List Event) × (events ≡ own ++ others)
-    × IsShape b cycle held ticket call said own
-    × MakesCalls b cycle (held_after held own) (ticket_after ticket call said own) calls replies others
-MakesCalls b cycle held ticket _ _ events = ⊥
+abbrev pub MakesCalls : ℕ → Option Cycle → Held → OwnTicket → List Op → List Reply → List Event → Type 0
+MakesCalls b cycle held own [] [] events = events ≡ []
+MakesCalls b cycle held own (call ∷ calls) (said ∷ replies) events =
+    (first : List Event) × (later : List Event) × (events ≡ first ++ later)
+    × IsShape b cycle held own.ticket call said first
+    × MakesCalls b cycle (held_after held first) (own_after own first) calls replies later
+MakesCalls b cycle held own _ _ events = ⊥

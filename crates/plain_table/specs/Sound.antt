@@ -12,7 +12,7 @@ use Rattle.plain_table.specs.Index.{index_of}
 use Rattle.plain_table.specs.Places.{space_of, object_of}
 use Rattle.plain_table.specs.Reachable.{Reaches}
 use Rattle.plain_table.specs.Area.{greatest_below}
-use Rattle.plain_table.specs.Cycle.{Cycle, IsOld, IsTouched, is_from}
+use Rattle.plain_table.specs.Cycle.{Cycle, HasStood, IsOld, IsTouched, is_from}
 use Rattle.plain_table.specs.Table.{Table, limit_of}
 use Rattle.plain_table.specs.Finish.{id_at}
 use Rattle.plain_table.specs.Rows.{IsTag, IsPlaced}
@@ -63,12 +63,13 @@ pub record FieldsSound (ids : Space → ℕ → Option ℕ) (fresh : ℕ → Spa
 abbrev pub IsHidden : Option Cell → Type 0
 IsHidden found = IsSomeAnd found (λ c. c.shown ≡ false)
 
--- tickets: each is for a hidden trusted cell that nobody is about to bind, and no two mutators have the same
+-- tickets: each is a mutator's, for a hidden trusted cell that nobody is about to bind, and no two mutators have the same
 pub record TicketsSound (trusted : ℕ → Option Cell) (fresh : ℕ → Space → ℕ → Bool) (ticket : ℕ → Option ℕ) : Type 0 where
   pub fresh_hidden : (b i : ℕ) → IsTrue (fresh b Trusted i) → IsHidden (trusted i)
   pub hidden : (b i : ℕ) → ticket b ≡ Some i → IsHidden (trusted i)
   pub settled : (b c i : ℕ) → ticket b ≡ Some i → fresh c Trusted i ≡ false
   pub one_ticket : (b c i : ℕ) → ticket b ≡ Some i → ticket c ≡ Some i → b ≡ c
+  pub mutators : (b i : ℕ) → ticket b ≡ Some i → b < 8
 
 -- the area of a cycle: it begins at a segment from the second one on that is in use, and only a cycle with an area is
 -- aborted; each evacuation entry stands below it, for a field of an old object, which then counts as visited
@@ -95,10 +96,11 @@ pub record TracedSound (count : ℕ) (old : ℕ → Type 0) (born scans : ℕ �
   pub variables : (b v o : ℕ) → vars b v ≡ Some o → old o ⊎ IsTrue (born o)
   pub references : (o k q : ℕ) → old o ⊎ IsTrue (born o) → refs o k ≡ Some q → old q ⊎ IsTrue (born q)
 
--- the words of these objects are touched
-abbrev pub TouchedSound : Cycle → (Field → ℕ) → Type 0
-TouchedSound c words =
-    (f : Field) → IsOld c (object_of f) ⊎ IsTrue (c.born (object_of f)) → words f ≢ 0 → IsTouched c f (words f)
+-- the word of each field, 0 included, is that of the start or came into it since; and where it isn't 0, and the object
+-- is old or born, it is touched
+pub record TouchedSound (c : Cycle) (words : Field → ℕ) : Type 0 where
+  pub stood : (f : Field) → HasStood c f (words f)
+  pub touched : (f : Field) → IsOld c (object_of f) ⊎ IsTrue (c.born (object_of f)) → words f ≢ 0 → IsTouched c f (words f)
 
 -- their bound fields have their own cells, and are safe once the object is scanned or born
 pub record BoundSound (c : Cycle) (ids : Space → ℕ → Option ℕ) (words : Field → ℕ) (bound : Field → Option ℕ) : Type 0 where

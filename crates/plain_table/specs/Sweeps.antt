@@ -1,7 +1,7 @@
 -- What happens at a meet, and its report: the start of a cycle, or the scans that are still owed and the finish. The
 -- numbers of a sweep's report are those of the tables before and behind the finish. A meet scans only what is due, and
 -- reads the words that stand in fields then.
-use Rattle.std.specs.Prelude.{◌≡◌, ℕ, ◌+◌, Bool, true, false, List, [], ◌∷◌, ◌++◌, Option, Some, None, is_some}
+use Rattle.std.specs.Prelude.{◌≡◌, ℕ, ◌+◌, Bool, true, false, ◌||◌, List, [], ◌∷◌, ◌++◌, Option, Some, None, is_some, IsTrue}
 use Rattle.std.specs.List.{All, Contains}
 use Rattle.std.specs.Option.{option_to_list}
 use Rattle.plain_table.specs.declared.scripts.Meet.{Meet}
@@ -73,6 +73,13 @@ pub record IsSweep (s : Table) (c : Cycle) (t : Table) (sweep : SweepReport) : T
   pub tfreed : sweep.trusted + sweep.tfreed ≡ cells_in s Trusted
   pub compaction : sweep.compaction ≡ compaction_by c.start c.aborted
 
+-- the pause of a finish, at the table s: scans by the meeting's number, of due objects and by the words that stand in
+-- fields, until each due object is scanned or born
+pub record IsPause (linked : List ℕ) (s : Table) (events : List Event) : Type 0 where
+  pub own : All (λ (e : Event). e.by ≡ meeting) events
+  pub scans : Scans (MayScanAtMeet linked) IsReadAtMeet meeting Rest s events Rest
+  pub complete : InCycle (after s events) (λ c. (o : ℕ) → IsDue (after s events) c linked o → IsTrue (c.scans o || c.born o))
+
 -- the events of a meet at the table s and its report; `linked` are the objects that were linked in its cycle
 abbrev pub MeetBelongs : List ℕ → Table → Meet → List Event → MeetReport → Type 0
 MeetBelongs linked s meet.Plain events report.Plain = events ≡ []
@@ -80,8 +87,7 @@ MeetBelongs linked s (meet.Start policy) events (report.Started area) =
     (events ≡ event meeting (Start policy) reply.Ok ∷ []) × (area ≡ area_of s policy)
 MeetBelongs linked s meet.Finish events (report.Swept sweep) =
     (scans : List Event) × (events ≡ scans ++ event meeting Finish reply.Ok ∷ [])
-    × All (λ (e : Event). e.by ≡ meeting) scans
-    × Scans (MayScanAtMeet linked) IsReadAtMeet meeting Rest s scans
+    × IsPause linked s scans
     × InCycle (after s scans) (λ c. IsSweep (after s scans) c (finished (after s scans) c) sweep)
 MeetBelongs linked s meet.End events report.Ended = events ≡ []
 MeetBelongs linked s _ events _ = ⊥

@@ -59,9 +59,12 @@ opening limits = record {
 }
 
 -- the indexes of a space are those below its limit
+abbrev pub limit_in : Sizes → Space → ℕ
+limit_in sizes External = sizes.seg * sizes.ext
+limit_in sizes Trusted = sizes.seg * sizes.tru
+
 abbrev pub limit_of : Table → Space → ℕ
-limit_of s External = s.sizes.seg * s.sizes.ext
-limit_of s Trusted = s.sizes.seg * s.sizes.tru
+limit_of s p = limit_in s.sizes p
 
 -- the least index, among the n ones from i on, that is not used
 abbrev pub least_from : (ℕ → Bool) → ℕ → ℕ → Option ℕ

@@ -8,7 +8,7 @@ pub enum Space {
     Trusted,
 }
 
-/// A resource in the table: the number of its put, its tag, its value below 2^48, and whether a look can see it.
+/// A resource in the table: the number of its put, its tag from 1 on, its value below 2^48, and whether a look can see it.
 #[derive(Clone, Copy, Debug, PartialEq, Eq)]
 pub struct Cell {
     pub id: u64,
@@ -33,7 +33,8 @@ pub enum Field {
     Trusted { number: u32 },
 }
 
-/// What an event does. Its meaning is its row in `specs/Rows.antt`.
+/// What an event does. Its meaning is its row in `specs/Rows.antt`. `first` and `last` are the least and the greatest tag
+/// of the range that a look, a store or an exchange asks.
 #[derive(Clone, Copy, Debug, PartialEq, Eq)]
 pub enum Act {
     New {
@@ -73,16 +74,19 @@ pub enum Act {
     Look {
         space: Space,
         word: u32,
-        tag: u8,
+        first: u8,
+        last: u8,
     },
     Set {
         word: u32,
-        tag: u8,
+        first: u8,
+        last: u8,
         value: u64,
     },
     Swap {
         word: u32,
-        tag: u8,
+        first: u8,
+        last: u8,
         value: u64,
     },
     Forge {

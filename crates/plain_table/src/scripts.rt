@@ -30,8 +30,9 @@ pub enum Policy {
 }
 
 /// One operation of a mutator. A variable (`var`, `into`, `from`, `to`, `target`) is a number below 16, a reference
-/// `k` below 4, a global `g` below 16, an external field `f` below 2, a `tag` a byte with exactly four set bits, a
-/// `value` a number below 2^48, and a `word` any index word.
+/// `k` below 4, a global `g` below 16, an external field `f` below 2, a `tag` a byte from 1 on, `first` and `last` the
+/// least and the greatest tag of the asked range (`IsAsked` in `specs/Rows.antt`), a `value` a number below 2^48, and a
+/// `word` any index word.
 #[derive(Clone, Copy, Debug, PartialEq, Eq)]
 pub enum Op {
     /// Makes an object, which the variable then holds.
@@ -71,24 +72,27 @@ pub enum Op {
         tag: u8,
         value: u64,
     },
-    /// Loads by field `f` under a tag.
+    /// Loads by field `f` under a range of tags.
     Load {
         var: u32,
         f: u32,
-        tag: u8,
+        first: u8,
+        last: u8,
     },
-    /// Stores by field `f` under a tag.
+    /// Stores by field `f` under a range of tags; the cell keeps its tag.
     Store {
         var: u32,
         f: u32,
-        tag: u8,
+        first: u8,
+        last: u8,
         value: u64,
     },
-    /// Exchanges by field `f` under a tag.
+    /// Exchanges by field `f` under a range of tags; the cell keeps its tag.
     Swap {
         var: u32,
         f: u32,
-        tag: u8,
+        first: u8,
+        last: u8,
         value: u64,
     },
     /// Asks the word of field `f`.
@@ -102,15 +106,17 @@ pub enum Op {
         f: u32,
         word: u32,
     },
-    /// Loads by any word of the external space.
+    /// Loads by any word of the external space, under a range of tags.
     Raw {
         word: u32,
-        tag: u8,
+        first: u8,
+        last: u8,
     },
-    /// Stores by any word of the external space.
+    /// Stores by any word of the external space, under a range of tags.
     RawSet {
         word: u32,
-        tag: u8,
+        first: u8,
+        last: u8,
         value: u64,
     },
     /// A new unpublished trusted cell for the variable's object.
@@ -123,15 +129,17 @@ pub enum Op {
     TPub {
         var: u32,
     },
-    /// Loads by the trusted field.
+    /// Loads by the trusted field, under a range of tags.
     TLoad {
         var: u32,
-        tag: u8,
+        first: u8,
+        last: u8,
     },
-    /// Looks into the trusted space by any word.
+    /// Looks into the trusted space by any word, under a range of tags.
     TRaw {
         word: u32,
-        tag: u8,
+        first: u8,
+        last: u8,
     },
     /// The trusted field of `to` gets the word of that of `from`.
     Share {
@@ -160,9 +168,11 @@ pub struct Phase {
     pub meet: Meet,
 }
 
-/// A whole script. The last phase, and no other, has the meet `End`.
+/// A whole script. Its version is 1 or 2: in version 1 each tag has exactly four set bits, and each asked range is that of
+/// one tag. The last phase, and no other, has the meet `End`.
 #[derive(Debug, Drop)]
 pub struct Script {
+    pub version: u32,
     pub limits: Limits,
     pub phases: Items<Phase>,
 }

@@ -1,0 +1,16 @@
+pub mod EntryReads
+pub mod EntryLists
+pub mod Copies
+pub mod CycleSets
+pub mod Rounds
+pub mod RestOfEntries
+pub mod KeptFields
+pub mod Makes
+pub mod MakesObjects
+pub mod OneByOne
+pub mod SafeFields
+pub mod NamedWords
+pub mod MakesCycles
+pub mod SweptParts
+pub mod Finishes
+pub mod MakesMeets

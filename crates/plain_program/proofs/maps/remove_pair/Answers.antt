@@ -1,0 +1,9 @@
+use Rattle.std.proofs.Common.{Bool, false, ◌∙◌, ap}
+use Rattle.std.specs.Prelude.{if◌then◌else◌}
+use Rattle.plain_program.specs.Entries.{has_pair}
+use Rattle.plain_program.proofs.EntryReads.{is_eq-pair_cmp}
+use Rattle.plain_program.proofs.maps.remove_pair.Goals as goal
+
+pub returns : goal.returns
+returns c = λ m i. c.remove.ensures.updates.0 (m, i)
+    ∙ ap (λ (test : Bool). if test then false else has_pair c.args.set.now.keys m i) (is_eq-pair_cmp c.args.key.0 c.args.key.1 m i)

@@ -1,9 +1,0 @@
-use Rattle.std.proofs.Common.{Bool, Some, ◌∙◌, ap}
-use Rattle.std.specs.Prelude.{if◌then◌else◌}
-use Rattle.plain_table.specs.Entries.{at_pair}
-use Rattle.plain_table.proofs.EntryReads.{is_eq-pair_cmp}
-use Rattle.plain_table.proofs.maps.put_pair.Goals as goal
-
-pub returns-in-Ok : goal.returns-in-Ok
-returns-in-Ok g c = λ m i. c.in-Ok.ensures.updates.0 (m, i)
-    ∙ ap (λ (test : Bool). if test then Some c.args.value else at_pair c.args.map.now.entries m i) (is_eq-pair_cmp c.args.key.0 c.args.key.1 m i)

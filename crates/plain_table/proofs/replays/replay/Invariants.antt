@@ -1,6 +1,0 @@
-use Rattle.plain_table.specs.Table.{opening}
-use Rattle.plain_table.proofs.OneByOne.{IsReplayed}
-use Rattle.plain_table.proofs.replays.replay.Given as goal
-
-abbrev pub invariant-loop-event : goal.invariant-loop-event
-invariant-loop-event l = IsReplayed l.state (opening l.fn.limits) l.events l.event-index

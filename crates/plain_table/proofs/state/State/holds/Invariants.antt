@@ -1,6 +1,0 @@
-use Rattle.std.proofs.Common.{◌≡◌, ℕ, ◌<◌, Some}
-use Rattle.plain_table.specs.Kept.{shown}
-use Rattle.plain_table.proofs.state.State.holds.Given as goal
-
-abbrev pub invariant-loop-var : goal.invariant-loop-var
-invariant-loop-var l = (v : ℕ) → v < l.var → (shown l.self).vars l.by v ≡ Some l.object → ⊥

@@ -1,9 +1,0 @@
-use Rattle.std.proofs.Common.{rules}
-use Rattle.plain_table.proofs.MakesObjects.{makes_get}
-use Rattle.plain_table.proofs.state.State.make_get.Goals as goal
-
-pub returns : goal.returns
-returns c =
-    makes_get c.args.self.now c.set_variable.new.self c.args.by c.args.var c.args.spot c.at_spot-object.result c.args.said
-    c.if-by-ge-MUTATORS.false c.if-var-ge-VARIABLES.false (search rules) c.at_spot-object.ensures (search rules)
-    c.in_ok-set_variable.ensures.table c.in_ok-set_variable.ensures.spent

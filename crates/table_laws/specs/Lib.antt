@@ -1,0 +1,4 @@
+pub mod Steady
+pub mod Stored
+pub mod Causes
+pub mod Laws

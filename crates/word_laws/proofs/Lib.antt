@@ -1,0 +1,11 @@
+pub mod ShownParts
+pub mod WordChanges
+pub mod FieldWords
+pub mod EntryWords
+pub mod CellWords
+pub mod QuietWords
+pub mod LinkWords
+pub mod CountWords
+pub mod HeaderWords
+pub mod FreelistReads
+pub mod FreelistWords
