@@ -137,14 +137,14 @@ stores old mid new i value c at e1 e2 =
 pub makes_set : (old new : Kept) (b word tag value i : ℕ) (c : Cell) (said : Reply) → i ≡ index_of word →
     (shown old).cells External (index_of word) ≡ Some c → c.tag ≡ tag → value < 2 ^ 48 → said ≡ reply.Ok →
     shown new ≡ with_value (shown old) i value → new.spent ≡ old.spent →
-    Steps true old new (event b (Set word tag value) said)
+    Steps true old new (event b (Set word first last value) said)
 makes_set old new b word tag value i c said index at tags small is stored s =
     (((has_cell old word tag c at tags, small), is), stored ∙ ap (λ (j : ℕ). with_value (shown old) j value) index, s)
 
 pub makes_swap : (old new : Kept) (b word tag value i : ℕ) (c : Cell) (said : Reply) → i ≡ index_of word →
     (shown old).cells External (index_of word) ≡ Some c → c.tag ≡ tag → value < 2 ^ 48 → said ≡ reply.Value c.value →
     shown new ≡ with_value (shown old) i value → new.spent ≡ old.spent →
-    Steps true old new (event b (Swap word tag value) said)
+    Steps true old new (event b (Swap word first last value) said)
 makes_swap old new b word tag value i c said index at tags small is stored s = (
   ((has_cell old word tag c at tags, small), is ∙ sym (ap (λ (found : Option Cell). reply.Value (value_at found)) at)),
   stored ∙ ap (λ (j : ℕ). with_value (shown old) j value) index,

@@ -45,9 +45,9 @@ one_put s b (Take p) = taken s b p (least_free s p)
 one_put s b (Put p i tag value) = omega arith
 one_put s b (Bind f word) = either (s.words f == 0) s (with_bound s b f word) (with_unbound s b f word) (omega arith) (omega arith)
 one_put s b (Name f) = omega arith
-one_put s b (Look p word tag) = omega arith
-one_put s b (Set word tag value) = omega arith
-one_put s b (Swap word tag value) = omega arith
+one_put s b (Look p word first last) = omega arith
+one_put s b (Set word first last value) = omega arith
+one_put s b (Swap word first last value) = omega arith
 one_put s b (Forge number word) = omega arith
 one_put s b (Drop var) = omega arith
 one_put s b (Get var spot) = omega arith

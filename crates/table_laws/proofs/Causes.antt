@@ -86,9 +86,9 @@ module _ (p : Space) (i : ℕ) where
       if_either (λ t. GoesOn s.cycle t.cycle p i (Writes (Bind f word) p i ⊎ IsNamedIn s.cycle p i)) (s.words f == 0) (with_bound s b f word) (with_unbound s b f word)
       (GoesOn-touched s.cycle f word) (GoesOn-same s.cycle)
   GoesOn-row s b (Name f) beside k = GoesOn-same s.cycle
-  GoesOn-row s b (Look q word tag) beside k = GoesOn-same s.cycle
-  GoesOn-row s b (Set word tag value) beside k = GoesOn-marked s.cycle External (index_of word) (λ same. inl (sym same.0, same.1))
-  GoesOn-row s b (Swap word tag value) beside k = GoesOn-marked s.cycle External (index_of word) (λ same. inl (sym same.0, same.1))
+  GoesOn-row s b (Look q word first last) beside k = GoesOn-same s.cycle
+  GoesOn-row s b (Set word first last value) beside k = GoesOn-marked s.cycle External (index_of word) (λ same. inl (sym same.0, same.1))
+  GoesOn-row s b (Swap word first last value) beside k = GoesOn-marked s.cycle External (index_of word) (λ same. inl (sym same.0, same.1))
   GoesOn-row s b (Forge number word) beside k = GoesOn-touched s.cycle (field.External number) word
   GoesOn-row s b (Publish j) beside k = GoesOn-marked s.cycle Trusted j (λ same. inl (sym same.0, same.1))
   GoesOn-row s b (Mark q j) beside k =

@@ -1,6 +1,6 @@
 -- Steadiness of the cells: behind an event beside the cycle's start and finish each cell stands where it stood, with its
 -- id and tag; only a put makes one, only a publish shows one, and one that changes in a cycle is marked.
-use Rattle.std.proofs.Common.{◌≡◌, ℕ, true, Option, Some, None, IsTrue, IsSome, IsSomeAnd, refl, sym, ap, ◌∙◌, subst, subst₂, ap₂, ◌==◌, inl, inr, option_map}
+use Rattle.std.proofs.Common.{◌≡◌, ℕ, true, Option, Some, None, IsTrue, IsSome, IsSomeAnd, refl, sym, ap, ◌∙◌, subst, subst₂, ap₂, ◌==◌, inl, inr, option_map, IfSome}
 use Rattle.std.specs.Prelude.{◌⊎◌, nat_lt}
 use Rattle.plain_table.specs.declared.events.Act.{Act}
 use Rattle.plain_table.specs.declared.events.Act.TheVariants.{New, Link, Take, Below, Put, Bind, Set, Swap, Publish, Start, Finish}
@@ -34,12 +34,17 @@ pub marked_in-marks : (o : Option Cycle) (p : Space) (i : ℕ) → (marked_in o 
 marked_in-marks None p i = inl refl
 marked_in-marks (Some c) p i = inr (put_entry-same c.marks p i true)
 
+pub marked_in-here : (o : Option Cycle) (p : Space) (i : ℕ) → IfSome (marked_in o p i) (λ d. IsTrue (d.marks p i))
+marked_in-here None p i = tt
+marked_in-here (Some c) p i = put_entry-same c.marks p i true
+
 -- the cells are left alone
 pub CellsSteady-same : (s : Table) (e : Event) (t : Table) → t.cells ≡ s.cells → CellsSteady s e t
 CellsSteady-same s e t same = record {
   stay = λ p i c at. IsSomeAnd-by (t.cells p i) c (λ d. (d.id ≡ c.id) × (d.tag ≡ c.tag)) (ap (λ f. f p i) same ∙ at) (refl, refl);
   values = λ i c at. IsSomeAnd-by (t.cells Trusted i) c (λ d. d.value ≡ c.value) (ap (λ f. f Trusted i) same ∙ at) refl;
   made = λ p i none found. absurd (IsSome-none (t.cells p i) (ap (λ f. f p i) same ∙ none) found);
+  made_marked = λ p i none found. absurd (IsSome-none (t.cells p i) (ap (λ f. f p i) same ∙ none) found);
   shown = λ p i c at. inl (IsSomeAnd-by (t.cells p i) c (λ d. d.shown ≡ c.shown) (ap (λ f. f p i) same ∙ at) refl);
   marked = λ p i c at. inl (ap (λ f. f p i) same ∙ at);
 }
@@ -63,6 +68,7 @@ CellsSteady-change s e t p i change h values shown cells cycle = record {
     | inr r ↦ IsSomeAnd-by (t.cells Trusted j) c (λ d. d.value ≡ c.value) r refl
   ];
   made = λ q j none found. absurd (IsSome-none (t.cells q j) (stays_empty q j none) found);
+  made_marked = λ q j none found. absurd (IsSome-none (t.cells q j) (stays_empty q j none) found);
   shown = λ q j c at. elim (read q j c at) [
     | inl r ↦ elim (shown c) [
       | inl k ↦ inl (IsSomeAnd-by (t.cells q j) (change c) (λ d. d.shown ≡ c.shown) r.2 k)
@@ -108,6 +114,10 @@ CellsSteady-put s b said p i tag value empty = record {
   stay = λ q j c at. IsSomeAnd-by ((with_cell s b p i tag value).cells q j) c (λ d. (d.id ≡ c.id) × (d.tag ≡ c.tag)) (keeps q j c at) (refl, refl);
   values = λ j c at. IsSomeAnd-by ((with_cell s b p i tag value).cells Trusted j) c (λ d. d.value ≡ c.value) (keeps Trusted j c at) refl;
   made = λ q j none found. (tag, value, is_put q j none found);
+  made_marked = λ q j none found. elim (read_entry (Some (record { id = s.next; tag = tag; value = value; shown = same_space p External })) s.cells p i q j) [
+    | inl r ↦ subst₂ (λ (x : Space) (y : ℕ). IfSome (marked_in s.cycle p i) (λ d. IsTrue (d.marks x y))) r.0.0 r.0.1 (marked_in-here s.cycle p i)
+    | inr r ↦ absurd (IsSome-none ((with_cell s b p i tag value).cells q j) (r.1 ∙ none) found)
+  ];
   shown = λ q j c at. inl (IsSomeAnd-by ((with_cell s b p i tag value).cells q j) c (λ d. d.shown ≡ c.shown) (keeps q j c at) refl);
   marked = λ q j c at. inl (keeps q j c at);
 }
@@ -142,10 +152,10 @@ CellsSteady-row s b (Put p i tag value) said h k beside =
 CellsSteady-row s b (Bind f w) said h k beside =
     if_either (CellsSteady s (record { by = b; act = Bind f w; said = said })) (s.words f == 0) (with_bound s b f w) (with_unbound s b f w)
     (CellsSteady-same _ _ _ refl) (CellsSteady-same _ _ _ refl)
-CellsSteady-row s b (Set w tag value) said h k beside =
+CellsSteady-row s b (Set w first last value) said h k beside =
     CellsSteady-change _ _ _ External (index_of w) (λ (c : Cell). record c { value = value }) (record { ids = λ c. refl; tags = λ c. refl })
     (λ c wrong. absurd (cc)) (λ c. inl refl) refl refl
-CellsSteady-row s b (Swap w tag value) said h k beside =
+CellsSteady-row s b (Swap w first last value) said h k beside =
     CellsSteady-change _ _ _ External (index_of w) (λ (c : Cell). record c { value = value }) (record { ids = λ c. refl; tags = λ c. refl })
     (λ c wrong. absurd (cc)) (λ c. inl refl) refl refl
 CellsSteady-row s b (Publish i) said h k beside =

@@ -76,8 +76,8 @@ CyclesSteady-row s b (Put p i tag value) said h k beside = CyclesSteady-changed 
 CyclesSteady-row s b (Bind f w) said h k beside =
     if_either (λ t. CyclesSteady s.cycle t.cycle) (s.words f == 0) (with_bound s b f w) (with_unbound s b f w)
     (CyclesSteady-changed s.cycle (CycleSteady-word f w)) (CyclesSteady-same s.cycle)
-CyclesSteady-row s b (Set w tag value) said h k beside = CyclesSteady-changed s.cycle (CycleSteady-mark External (index_of w))
-CyclesSteady-row s b (Swap w tag value) said h k beside = CyclesSteady-changed s.cycle (CycleSteady-mark External (index_of w))
+CyclesSteady-row s b (Set w first last value) said h k beside = CyclesSteady-changed s.cycle (CycleSteady-mark External (index_of w))
+CyclesSteady-row s b (Swap w first last value) said h k beside = CyclesSteady-changed s.cycle (CycleSteady-mark External (index_of w))
 CyclesSteady-row s b (Forge number w) said h k beside = CyclesSteady-changed s.cycle (CycleSteady-word (field.External number) w)
 CyclesSteady-row s b (Publish i) said h k beside = CyclesSteady-changed s.cycle (CycleSteady-mark Trusted i)
 CyclesSteady-row s b (Mark p i) said h k beside = CyclesSteady-changed s.cycle (CycleSteady-mark p i)

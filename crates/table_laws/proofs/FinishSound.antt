@@ -191,6 +191,7 @@ TicketsSound-finish s c h is can = record {
   settled = λ b d i there. refl;
   one_ticket = λ b d i here there.
       h.tickets.one_ticket b d i (ticket_kept-is s c (s.ticket b) i here).0 (ticket_kept-is s c (s.ticket d) i there).0;
+  mutators = λ b i there. h.tickets.mutators b i (ticket_kept-is s c (s.ticket b) i there).0;
 }
 
 pub IsSound-finish : (s : Table) (c : Cycle) → IsSound s → s.cycle ≡ Some c → CanFinish s c → IsSound (finished s c)

@@ -175,7 +175,7 @@ AreaIn-next s b (Bind f w) h k =
     if_either (λ t. IfSome t.cycle (AreaIn t)) (s.words f == 0) (with_bound s b f w) (with_unbound s b f w)
     (IfSome-changed (AreaIn s) s.cycle h.cycle (λ c d. d.area)) (AreaIn-same s s.cycle h.cycle)
 AreaIn-next s b (Name f) h k = AreaIn-same s s.cycle h.cycle
-AreaIn-next s b (Look p w tag) h k = AreaIn-same s s.cycle h.cycle
+AreaIn-next s b (Look p w first last) h k = AreaIn-same s s.cycle h.cycle
 AreaIn-next s b (Evac i number) h k =
     AreaIn-evac s i number h (MayEvacuate-each s.cycle i number (IfSome-empty s.cycle i (h.used.claim_or_entry b i k.0))
     (IfSome-start (λ start. i < start) s.cycle k.1) (IfSome-and s.cycle k.2 (λ c d. d)))

@@ -200,9 +200,9 @@ BoundIn-next s b (Bind f w) h k =
     if_either (λ t. IfSome t.cycle (BoundIn t)) (s.words f == 0) (with_bound s b f w) (with_unbound s b f w)
     (BoundIn-bound s b f w h k.2) (BoundIn-same s s.cycle h.cycle)
 BoundIn-next s b (Name f) h k = BoundIn-same s s.cycle h.cycle
-BoundIn-next s b (Look p w tag) h k = BoundIn-same s s.cycle h.cycle
-BoundIn-next s b (Set w tag value) h k = BoundIn-value s (index_of w) value h
-BoundIn-next s b (Swap w tag value) h k = BoundIn-value s (index_of w) value h
+BoundIn-next s b (Look p w first last) h k = BoundIn-same s s.cycle h.cycle
+BoundIn-next s b (Set w first last value) h k = BoundIn-value s (index_of w) value h
+BoundIn-next s b (Swap w first last value) h k = BoundIn-value s (index_of w) value h
 BoundIn-next s b (Forge number w) h k = BoundIn-forge s number w h
 BoundIn-next s b (Publish i) h k = BoundIn-publish s b i h
 BoundIn-next s b (Mark p i) h k = BoundIn-mark s p i h

@@ -83,9 +83,9 @@ CellsSound-row s b Abort h k _ = h.cells
 CellsSound-row s b (Put p i tag value) h k _ = CellsSound-put h.cells p i s.next tag value k.1 k.2
 CellsSound-row s b (Bind f word) h k _ = if_either Cells (s.words f == 0) (with_bound s b f word) (with_unbound s b f word) h.cells h.cells
 CellsSound-row s b (Name f) h k _ = h.cells
-CellsSound-row s b (Look p word tag) h k _ = h.cells
-CellsSound-row s b (Set word tag value) h k _ = CellsSound-set h.cells (index_of word) value k.1
-CellsSound-row s b (Swap word tag value) h k _ = CellsSound-set h.cells (index_of word) value k.1
+CellsSound-row s b (Look p word first last) h k _ = h.cells
+CellsSound-row s b (Set word first last value) h k _ = CellsSound-set h.cells (index_of word) value k.1
+CellsSound-row s b (Swap word first last value) h k _ = CellsSound-set h.cells (index_of word) value k.1
 CellsSound-row s b (Forge number word) h k _ = h.cells
 CellsSound-row s b (Publish i) h k _ = CellsSound-publish h.cells i
 CellsSound-row s b (Mark p i) h k _ = h.cells

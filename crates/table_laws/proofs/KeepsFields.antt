@@ -189,9 +189,9 @@ FieldsSound-row s b Abort h k o = h.fields
 FieldsSound-row s b (Put p i tag value) h k o = AreFieldsSound-put s b p i tag value h k.0
 FieldsSound-row s b (Bind f w) h k o = AreFieldsSound-bind s b f w (s.words f == 0) h k.2
 FieldsSound-row s b (Name f) h k o = h.fields
-FieldsSound-row s b (Look p w tag) h k o = h.fields
-FieldsSound-row s b (Set w tag value) h k o = FieldsSound-is (id_at (with_value s (index_of w) value)) h.fields (id_at-with_value s (index_of w) value)
-FieldsSound-row s b (Swap w tag value) h k o = FieldsSound-is (id_at (with_value s (index_of w) value)) h.fields (id_at-with_value s (index_of w) value)
+FieldsSound-row s b (Look p w first last) h k o = h.fields
+FieldsSound-row s b (Set w first last value) h k o = FieldsSound-is (id_at (with_value s (index_of w) value)) h.fields (id_at-with_value s (index_of w) value)
+FieldsSound-row s b (Swap w first last value) h k o = FieldsSound-is (id_at (with_value s (index_of w) value)) h.fields (id_at-with_value s (index_of w) value)
 FieldsSound-row s b (Forge number w) h k o = FieldsSound-forge number w h.fields
 FieldsSound-row s b (Publish i) h k o = FieldsSound-is (id_at (with_published s b i)) h.fields (id_at-with_published s b i)
 FieldsSound-row s b (Mark p i) h k o = h.fields

@@ -76,9 +76,9 @@ FreshSound-row s b (Bind f word) h k _ =
     if_either Fresh (s.words f == 0) (with_bound s b f word) (with_unbound s b f word)
     (FreshSound-bind h.fresh b (space_of f) (index_of word)) (FreshSound-bind h.fresh b (space_of f) (index_of word))
 FreshSound-row s b (Name f) h k _ = h.fresh
-FreshSound-row s b (Look p word tag) h k _ = h.fresh
-FreshSound-row s b (Set word tag value) h k _ = FreshSound-is h.fresh _ (id_at-with_value s (index_of word) value)
-FreshSound-row s b (Swap word tag value) h k _ = FreshSound-is h.fresh _ (id_at-with_value s (index_of word) value)
+FreshSound-row s b (Look p word first last) h k _ = h.fresh
+FreshSound-row s b (Set word first last value) h k _ = FreshSound-is h.fresh _ (id_at-with_value s (index_of word) value)
+FreshSound-row s b (Swap word first last value) h k _ = FreshSound-is h.fresh _ (id_at-with_value s (index_of word) value)
 FreshSound-row s b (Forge number word) h k _ = h.fresh
 FreshSound-row s b (Publish i) h k _ = FreshSound-is h.fresh _ (id_at-with_published s b i)
 FreshSound-row s b (Mark p i) h k _ = h.fresh

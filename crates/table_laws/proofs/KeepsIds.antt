@@ -63,9 +63,9 @@ IdsSound-row s b (Put p i tag value) h k _ =
     subst (λ (x : Space → ℕ → Option ℕ). IdsSound x (s.next + 1)) (sym (id_at-with_cell s b p i tag value)) (IdsSound-put h.ids p i)
 IdsSound-row s b (Bind f word) h k _ = if_either Ids (s.words f == 0) (with_bound s b f word) (with_unbound s b f word) h.ids h.ids
 IdsSound-row s b (Name f) h k _ = h.ids
-IdsSound-row s b (Look p word tag) h k _ = h.ids
-IdsSound-row s b (Set word tag value) h k _ = IdsSound-is h.ids _ (id_at-with_value s (index_of word) value)
-IdsSound-row s b (Swap word tag value) h k _ = IdsSound-is h.ids _ (id_at-with_value s (index_of word) value)
+IdsSound-row s b (Look p word first last) h k _ = h.ids
+IdsSound-row s b (Set word first last value) h k _ = IdsSound-is h.ids _ (id_at-with_value s (index_of word) value)
+IdsSound-row s b (Swap word first last value) h k _ = IdsSound-is h.ids _ (id_at-with_value s (index_of word) value)
 IdsSound-row s b (Forge number word) h k _ = h.ids
 IdsSound-row s b (Publish i) h k _ = IdsSound-is h.ids _ (id_at-with_published s b i)
 IdsSound-row s b (Mark p i) h k _ = h.ids

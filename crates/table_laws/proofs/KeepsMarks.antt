@@ -13,7 +13,7 @@ use Rattle.plain_table.specs.Places.{space_of, put_entry, put_claim}
 use Rattle.plain_table.specs.Cycle.{Cycle, is_from, marked_in}
 use Rattle.plain_table.specs.Table.{Table, least_free}
 use Rattle.plain_table.specs.Finish.{id_at, CanFinish}
-use Rattle.plain_table.specs.Rows.{HasCell, MayFill, free_below, object_in, with_object, with_cell, with_bound, with_unbound, with_value, with_published, row}
+use Rattle.plain_table.specs.Rows.{HasCell, MayFill, free_below, object_in, with_object, with_cell, with_bound, with_unbound, with_value, with_published, row, is_asked}
 use Rattle.plain_table.specs.Sound.{IsSound, CycleSound, MarksSound}
 use Rattle.plain_table.proofs.PlaceReads.{read_entry, read_claim, put_entry-grows, put_entry-same}
 use Rattle.plain_table.proofs.Options.{IsSomeAnd-some, is_some-option_map}
@@ -123,9 +123,10 @@ MarksIn-mark s p i h is =
     (is_some-option_map (λ (x : Cell). x.id) (s.cells p i) ∙ cell) d.marks)
 
 -- the cell of a store, and that of a ticket
-id_at-cell : (s : Table) (w tag : ℕ) → HasCell s w tag → IsSome (id_at s External (index_of w))
-id_at-cell s w tag h =
-    is_some-option_map (λ (cell : Cell). cell.id) (s.cells External (index_of w)) ∙ IsSomeAnd-some (s.cells External (index_of w)) (λ c. c.tag ≡ tag) h
+id_at-cell : (s : Table) (w first last : ℕ) → HasCell s w first last → IsSome (id_at s External (index_of w))
+id_at-cell s w first last h =
+    is_some-option_map (λ (cell : Cell). cell.id) (s.cells External (index_of w))
+    ∙ IsSomeAnd-some (s.cells External (index_of w)) (λ c. IsTrue (is_asked first last c.tag)) h
 
 id_at-ticket : (s : Table) (b i : ℕ) → IsSound s → s.ticket b ≡ Some i → IsSome (id_at s Trusted i)
 id_at-ticket s b i h e =
@@ -152,9 +153,9 @@ MarksIn-next s b Abort h k =
 MarksIn-next s b (Put p i tag value) h k = MarksIn-put s b p i tag value h k.3
 MarksIn-next s b (Bind f w) h k = MarksIn-bind s b f w (s.words f == 0) h
 MarksIn-next s b (Name f) h k = MarksIn-same s s.cycle h.cycle
-MarksIn-next s b (Look p w tag) h k = MarksIn-same s s.cycle h.cycle
-MarksIn-next s b (Set w tag value) h k = MarksIn-value s (index_of w) value h (id_at-cell s w tag k.0)
-MarksIn-next s b (Swap w tag value) h k = MarksIn-value s (index_of w) value h (id_at-cell s w tag k.0)
+MarksIn-next s b (Look p w first last) h k = MarksIn-same s s.cycle h.cycle
+MarksIn-next s b (Set w first last value) h k = MarksIn-value s (index_of w) value h (id_at-cell s w first last k.0)
+MarksIn-next s b (Swap w first last value) h k = MarksIn-value s (index_of w) value h (id_at-cell s w first last k.0)
 MarksIn-next s b (Forge number w) h k = IfSome-changed (MarksIn s) s.cycle h.cycle (λ c d. d.marks)
 MarksIn-next s b (Publish i) h k = MarksIn-publish s b i h (id_at-ticket s b i h k)
 MarksIn-next s b (Mark p i) h k = MarksIn-mark s p i h (IfSome-and s.cycle k (λ c d. d.0))

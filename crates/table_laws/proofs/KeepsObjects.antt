@@ -139,9 +139,9 @@ ObjectsSound-row s b (Bind f word) h k _ =
     if_either Objects (s.words f == 0) (with_bound s b f word) (with_unbound s b f word)
     (ObjectsSound-words h.objects f word (id_at s (space_of f) (index_of word)) (Holds-made s b (object_of f) h.objects k.0) k.1) h.objects
 ObjectsSound-row s b (Name f) h k _ = h.objects
-ObjectsSound-row s b (Look p word tag) h k _ = h.objects
-ObjectsSound-row s b (Set word tag value) h k _ = h.objects
-ObjectsSound-row s b (Swap word tag value) h k _ = h.objects
+ObjectsSound-row s b (Look p word first last) h k _ = h.objects
+ObjectsSound-row s b (Set word first last value) h k _ = h.objects
+ObjectsSound-row s b (Swap word first last value) h k _ = h.objects
 ObjectsSound-row s b (Forge number word) h k _ =
     ObjectsSound-words h.objects (field.External number) word None (Holds-made s b (object_of (field.External number)) h.objects k.0) k.1
 ObjectsSound-row s b (Publish i) h k _ = h.objects

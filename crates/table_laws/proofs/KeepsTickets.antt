@@ -1,5 +1,5 @@
 -- The tickets stay sound behind each act other than the finish of a cycle.
-use Rattle.std.proofs.Common.{◌≡◌, ◌⊎◌, ◌==◌, ℕ, Bool, true, false, Option, Some, None, refl, sym, ap, ◌∙◌, subst, true≢false, inl, inr, nat_lt, if◌then◌else◌, IsTrue, option_map}
+use Rattle.std.proofs.Common.{◌≡◌, ◌⊎◌, ◌==◌, ℕ, Bool, true, false, Option, Some, None, refl, sym, ap, ◌∙◌, subst, true≢false, inl, inr, nat_lt, if◌then◌else◌, IsTrue, option_map, ◌<◌}
 use Rattle.std.proofs.lemmas.Option.{none-some, same_Some}
 use Rattle.plain_table.specs.declared.events.Act.{Act}
 use Rattle.plain_table.specs.declared.events.Act.TheVariants.{New, Drop, Get, Link, Take, Below, Abort, Put, Bind, Name, Look, Set, Swap, Forge, Publish, Mark, Evac, Scan, Start, Finish}
@@ -9,7 +9,7 @@ use Rattle.plain_table.specs.declared.events.Space.TheVariants.{External, Truste
 use Rattle.plain_table.specs.declared.events.Field.{Field}
 use Rattle.plain_table.specs.declared.events.Field.TheVariants as field
 use Rattle.plain_table.specs.Index.{index_of}
-use Rattle.plain_table.specs.Places.{space_of, put_at, put_entry, put_claim}
+use Rattle.plain_table.specs.Places.{space_of, put_at, put_entry, put_claim, object_of}
 use Rattle.plain_table.specs.Table.{Table, least_free}
 use Rattle.plain_table.specs.Rows.{row, object_in, with_object, with_bound, with_unbound, with_cell, with_published, free_below}
 use Rattle.plain_table.specs.Sound.{IsHidden, TicketsSound, IsSound}
@@ -31,6 +31,7 @@ module _ {trusted : ℕ → Option Cell} {fresh : ℕ → Space → ℕ → Bool
     hidden = h.hidden;
     settled = λ b c i e. no_claim (less c Trusted i) (fresh c Trusted i) (sub c i) (h.settled b c i e);
     one_ticket = h.one_ticket;
+    mutators = h.mutators;
   }
 
   -- a hidden cell comes to an index where none stood, and is fresh
@@ -53,13 +54,14 @@ module _ {trusted : ℕ → Option Cell} {fresh : ℕ → Space → ℕ → Bool
       | inr other ↦ other.1 ∙ h.settled c d j e
     ];
     one_ticket = h.one_ticket;
+    mutators = h.mutators;
   }
 
   -- a number that bound its fresh cell gets the ticket for it
-  pub TicketsSound-bind : (less : ℕ → Space → ℕ → Bool) (b i : ℕ) → TicketsSound trusted fresh ticket → IsTrue (fresh b Trusted i) →
+  pub TicketsSound-bind : (less : ℕ → Space → ℕ → Bool) (b i : ℕ) → b < 8 → TicketsSound trusted fresh ticket → IsTrue (fresh b Trusted i) →
       ((c : ℕ) → less c Trusted i ≡ false) → ((c j : ℕ) → IsTrue (less c Trusted j) → IsTrue (fresh c Trusted j)) →
       TicketsSound trusted less (put_at ticket b (Some i))
-  TicketsSound-bind less b i h own gone sub = record {
+  TicketsSound-bind less b i low h own gone sub = record {
     fresh_hidden = λ c j is. h.fresh_hidden c j (sub c j is);
     hidden = λ c j e. elim (read_at (Some i) ticket b c) [
       | inl here ↦ let at : i ≡ j = same_Some i j (sym here.1 ∙ e) in subst (λ (k : ℕ). IsHidden (trusted k)) at (h.fresh_hidden b i own)
@@ -79,6 +81,10 @@ module _ {trusted : ℕ → Option Cell} {fresh : ℕ → Space → ℕ → Bool
             absurd (true≢false (sym own ∙ ap (fresh b Trusted) at ∙ h.settled c b j (sym other.1 ∙ e)))
         | inr apart ↦ h.one_ticket c d j (sym other.1 ∙ e) (sym apart.1 ∙ k)
       ]
+    ];
+    mutators = λ c j e. elim (read_at (Some i) ticket b c) [
+      | inl here ↦ subst (λ (m : ℕ). m < 8) here.0 low
+      | inr other ↦ h.mutators c j (sym other.1 ∙ e)
     ];
   }
 
@@ -108,6 +114,10 @@ module _ {trusted : ℕ → Option Cell} {fresh : ℕ → Space → ℕ → Bool
         | inr apart ↦ h.one_ticket c d j (sym other.1 ∙ e) (sym apart.1 ∙ k)
       ]
     ];
+    mutators = λ c j e. elim (read_at None ticket b c) [
+      | inl here ↦ absurd (none-some j (sym here.1 ∙ e))
+      | inr other ↦ h.mutators c j (sym other.1 ∙ e)
+    ];
   }
 
 -- the tickets of a table
@@ -127,20 +137,20 @@ AreTicketsSound-put s b Trusted i tag value h owed =
     ])
 
 -- behind a bind into an empty trusted field, with the test whether its cell was fresh
-AreTicketsSound-fresh : (s : Table) (b i : ℕ) (test : Bool) → IsSound s → s.fresh b Trusted i ≡ test →
+AreTicketsSound-fresh : (s : Table) (b i : ℕ) (test : Bool) → b < 8 → IsSound s → s.fresh b Trusted i ≡ test →
     TicketsSound (s.cells Trusted) (put_claim s.fresh b Trusted i false) (if test then put_at s.ticket b (Some i) else s.ticket)
-AreTicketsSound-fresh s b i true h own =
-    TicketsSound-bind (put_claim s.fresh b Trusted i false) b i h.tickets own (λ c. put_claim-alone s.fresh b Trusted i c h.fresh own)
+AreTicketsSound-fresh s b i true low h own =
+    TicketsSound-bind (put_claim s.fresh b Trusted i false) b i low h.tickets own (λ c. put_claim-alone s.fresh b Trusted i c h.fresh own)
     (λ c j. put_claim-was s.fresh b Trusted i c Trusted j)
-AreTicketsSound-fresh s b i false h none = TicketsSound-fresh (put_claim s.fresh b Trusted i false) h.tickets (λ c j. put_claim-was s.fresh b Trusted i c Trusted j)
+AreTicketsSound-fresh s b i false low h none = TicketsSound-fresh (put_claim s.fresh b Trusted i false) h.tickets (λ c j. put_claim-was s.fresh b Trusted i c Trusted j)
 
 -- behind a bind, with the test whether the field was empty
-AreTicketsSound-bind : (s : Table) (b : ℕ) (f : Field) (w : ℕ) (test : Bool) → IsSound s → AreTicketsSound (if test then with_bound s b f w else with_unbound s b f w)
-AreTicketsSound-bind s b f w false h =
+AreTicketsSound-bind : (s : Table) (b : ℕ) (f : Field) (w : ℕ) (test : Bool) → b < 8 → IsSound s → AreTicketsSound (if test then with_bound s b f w else with_unbound s b f w)
+AreTicketsSound-bind s b f w false low h =
     TicketsSound-fresh (put_claim s.fresh b (space_of f) (index_of w) false) h.tickets (λ c j. put_claim-was s.fresh b (space_of f) (index_of w) c Trusted j)
-AreTicketsSound-bind s b (field.External number) w true h =
+AreTicketsSound-bind s b (field.External number) w true low h =
     TicketsSound-fresh (put_claim s.fresh b External (index_of w) false) h.tickets (λ c j. put_claim-was s.fresh b External (index_of w) c Trusted j)
-AreTicketsSound-bind s b (field.Trusted number) w true h = AreTicketsSound-fresh s b (index_of w) (s.fresh b Trusted (index_of w)) h refl
+AreTicketsSound-bind s b (field.Trusted number) w true low h = AreTicketsSound-fresh s b (index_of w) (s.fresh b Trusted (index_of w)) low h refl
 
 AreTicketsSound-published : (s : Table) (b i : ℕ) → IsSound s → s.ticket b ≡ Some i → AreTicketsSound (with_published s b i)
 AreTicketsSound-published s b i h held =
@@ -162,11 +172,11 @@ TicketsSound-row s b (Below start) h k o =
     with_taken_either AreTicketsSound s b External (free_below s start) h.tickets (λ i. h.tickets)
 TicketsSound-row s b Abort h k o = h.tickets
 TicketsSound-row s b (Put p i tag value) h k o = AreTicketsSound-put s b p i tag value h k.0
-TicketsSound-row s b (Bind f w) h k o = AreTicketsSound-bind s b f w (s.words f == 0) h
+TicketsSound-row s b (Bind f w) h k o = AreTicketsSound-bind s b f w (s.words f == 0) (h.objects.variables b k.0.0 (object_of f) k.0.2).0 h
 TicketsSound-row s b (Name f) h k o = h.tickets
-TicketsSound-row s b (Look p w tag) h k o = h.tickets
-TicketsSound-row s b (Set w tag value) h k o = h.tickets
-TicketsSound-row s b (Swap w tag value) h k o = h.tickets
+TicketsSound-row s b (Look p w first last) h k o = h.tickets
+TicketsSound-row s b (Set w first last value) h k o = h.tickets
+TicketsSound-row s b (Swap w first last value) h k o = h.tickets
 TicketsSound-row s b (Forge number w) h k o = h.tickets
 TicketsSound-row s b (Publish i) h k o = AreTicketsSound-published s b i h k
 TicketsSound-row s b (Mark p i) h k o = h.tickets

@@ -1,5 +1,5 @@
 -- Behind each event the words of the objects of a cycle are touched.
-use Rattle.std.proofs.Common.{◌≢◌, ℕ, ◌<◌, ◌==◌, nat_lt, Bool, true, Option, IsTrue, IfSome, refl, ap, ◌∙◌, sym, subst, inl, inr, arith}
+use Rattle.std.proofs.Common.{◌≢◌, ℕ, ◌<◌, ◌==◌, nat_lt, Bool, true, Option, IsTrue, IfSome, refl, ap, ◌∙◌, sym, subst, inl, inr, arith, ◌≡◌}
 use Rattle.std.proofs.lemmas.Option.{IfSome_then}
 use Rattle.plain_table.specs.declared.events.Act.{Act}
 use Rattle.plain_table.specs.declared.events.Act.TheVariants.{New, Drop, Get, Link, Take, Below, Bind, Name, Look, Forge, Start, Finish}
@@ -7,7 +7,7 @@ use Rattle.plain_table.specs.declared.events.Space.TheVariants.{External}
 use Rattle.plain_table.specs.declared.events.Field.{Field}
 use Rattle.plain_table.specs.declared.events.Field.TheVariants as field
 use Rattle.plain_table.specs.Places.{object_of, put_at, put_field}
-use Rattle.plain_table.specs.Cycle.{Cycle, IsTouched, with_birth, with_word}
+use Rattle.plain_table.specs.Cycle.{Cycle, IsTouched, with_birth, with_word, HasStood}
 use Rattle.plain_table.specs.Table.{Table, least_free}
 use Rattle.plain_table.specs.Finish.{CanFinish}
 use Rattle.plain_table.specs.Rows.{object_in, free_below, with_object, with_bound, with_unbound, with_forged, row}
@@ -27,13 +27,16 @@ module _ (c : Cycle) (words : Field → ℕ) where
   -- a born object with no word
   TouchedSound-born : (o : ℕ) → ((f : Field) → words f ≢ 0 → object_of f ≢ o) → TouchedSound c words →
       TouchedSound (with_birth o c) words
-  TouchedSound-born o none h = λ f held full. elim held [
-    | inl old ↦ h f (inl old) full
-    | inr born ↦ elim (read_at true c.born o (object_of f)) [
-      | inl r ↦ absurd (none f full (sym r.0))
-      | inr r ↦ h f (inr (sym r.1 ∙ born)) full
-    ]
-  ]
+  TouchedSound-born o none h = record {
+    stood = h.stood;
+    touched = λ f held full. elim held [
+      | inl old ↦ h.touched f (inl old) full
+      | inr born ↦ elim (read_at true c.born o (object_of f)) [
+        | inl r ↦ absurd (none f full (sym r.0))
+        | inr r ↦ h.touched f (inr (sym r.1 ∙ born)) full
+      ]
+    ];
+  }
 
   -- a word that comes into a field
   IsTrue-came_here : (g : Field) (w : ℕ) → IsTrue (put_field c.came g (put_at (c.came g) w true) g w)
@@ -44,12 +47,22 @@ module _ (c : Cycle) (words : Field → ℕ) where
 
   TouchedSound-touched : (g : Field) (w : ℕ) → TouchedSound c words →
       TouchedSound (with_word g w c) (put_field words g w)
-  TouchedSound-touched g w h = λ f held full. elim (read_field w words g f) [
-    | inl r ↦ inr (subst (λ (word : ℕ). IsTrue ((with_word g w c).came f word)) (sym r.1)
-        (subst (λ (x : Field). IsTrue ((with_word g w c).came x w)) r.0 (IsTrue-came_here g w)))
-    | inr r ↦ subst (λ (word : ℕ). IsTouched (with_word g w c) f word) (sym r.1)
-        (elim (h f held (λ none. full (r.1 ∙ none))) [ inl old ↦ inl old | inr came ↦ inr (put_field-grows c.came g w f (words f) came) ])
-  ]
+  TouchedSound-touched g w h = record {
+    stood = λ f. elim (read_field w words g f) [
+      | inl r ↦ inr (came f r.0 r.1)
+      | inr r ↦ subst (λ (word : ℕ). HasStood (with_word g w c) f word) (sym r.1)
+          (elim (h.stood f) [ inl was ↦ inl was | inr before ↦ inr (put_field-grows c.came g w f (words f) before) ])
+    ];
+    touched = λ f held full. elim (read_field w words g f) [
+      | inl r ↦ inr (came f r.0 r.1)
+      | inr r ↦ subst (λ (word : ℕ). IsTouched (with_word g w c) f word) (sym r.1)
+          (elim (h.touched f held (λ none. full (r.1 ∙ none))) [ inl old ↦ inl old | inr before ↦ inr (put_field-grows c.came g w f (words f) before) ])
+    ];
+  }
+    where
+      came : (f : Field) → g ≡ f → put_field words g w f ≡ w → IsTrue ((with_word g w c).came f (put_field words g w f))
+      came f same is = subst (λ (word : ℕ). IsTrue ((with_word g w c).came f word)) (sym is)
+          (subst (λ (x : Field). IsTrue ((with_word g w c).came x w)) same (IsTrue-came_here g w))
 
 TouchedIn-object : (s : Table) (b var : ℕ) → IsSound s → IfSome (with_object s b var).cycle (TouchedIn (with_object s b var))
 TouchedIn-object s b var h =
@@ -80,10 +93,14 @@ TouchedIn-next s b (Bind f w) h k =
     if_either (λ t. IfSome t.cycle (TouchedIn t)) (s.words f == 0) (with_bound s b f w) (with_unbound s b f w)
     (TouchedIn-bound s b f w h) (TouchedIn-same s s.cycle h.cycle)
 TouchedIn-next s b (Name f) h k = TouchedIn-same s s.cycle h.cycle
-TouchedIn-next s b (Look p w tag) h k = TouchedIn-same s s.cycle h.cycle
+TouchedIn-next s b (Look p w first last) h k = TouchedIn-same s s.cycle h.cycle
 TouchedIn-next s b (Forge number w) h k =
     IfSome-changed (TouchedIn (with_forged s number w)) s.cycle h.cycle (λ c d. TouchedSound-touched c s.words (field.External number) w d.touched)
-TouchedIn-next s b (Start policy) h k = λ f held full. elim held [ inl old ↦ inl (old, refl, full) | inr born ↦ absurd (cc) ]
+TouchedIn-next s b (Start policy) h k = record {
+  stood = λ f. inl refl;
+  touched = λ f held full. elim held [ inl old ↦ inl (old, refl, full) | inr born ↦ absurd (cc) ];
+}
 TouchedIn-next s b Finish h k = IfSome-finished (CanFinish s) _ s s.cycle k.1
 -- all others leave words and births alone
-TouchedIn-next s b _ h k = IfSome-changed (TouchedIn s) s.cycle h.cycle (λ c d. d.touched)
+TouchedIn-next s b _ h k =
+    IfSome-changed (TouchedIn s) s.cycle h.cycle (λ c d. record { stood = d.touched.stood; touched = d.touched.touched })

@@ -172,7 +172,7 @@ TracedIn-next s b (Bind f w) h k =
     if_either (λ t. IfSome t.cycle (TracedIn t)) (s.words f == 0) (with_bound s b f w) (with_unbound s b f w)
     (IfSome-changed (TracedIn s) s.cycle h.cycle (λ c d. d.traced)) (TracedIn-same s s.cycle h.cycle)
 TracedIn-next s b (Name f) h k = TracedIn-same s s.cycle h.cycle
-TracedIn-next s b (Look p w tag) h k = TracedIn-same s s.cycle h.cycle
+TracedIn-next s b (Look p w first last) h k = TracedIn-same s s.cycle h.cycle
 TracedIn-next s b (Scan o) h k = TracedIn-scan s o h (IfSome-and s.cycle k (λ c d. d.0))
 TracedIn-next s b (Start policy) h k = TracedIn-start s policy h
 TracedIn-next s b Finish h k = IfSome-finished (CanFinish s) _ s s.cycle k.1

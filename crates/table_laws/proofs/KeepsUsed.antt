@@ -67,10 +67,10 @@ UsedSound-row s b (Bind f word) h k _ =
     if_either Used (s.words f == 0) (with_bound s b f word) (with_unbound s b f word)
     (UsedSound-is _ _ refl (entries_in-changed s.cycle (with_word f word) (λ c. refl)) h.used) h.used
 UsedSound-row s b (Name f) h k _ = h.used
-UsedSound-row s b (Look p word tag) h k _ = h.used
-UsedSound-row s b (Set word tag value) h k _ =
+UsedSound-row s b (Look p word first last) h k _ = h.used
+UsedSound-row s b (Set word first last value) h k _ =
     UsedSound-is _ _ (id_at-with_value s (index_of word) value) (entries_in-changed s.cycle (with_mark External (index_of word)) (λ c. refl)) h.used
-UsedSound-row s b (Swap word tag value) h k _ =
+UsedSound-row s b (Swap word first last value) h k _ =
     UsedSound-is _ _ (id_at-with_value s (index_of word) value) (entries_in-changed s.cycle (with_mark External (index_of word)) (λ c. refl)) h.used
 UsedSound-row s b (Forge number word) h k _ = UsedSound-is _ _ refl (entries_in-changed s.cycle (with_word (field.External number) word) (λ c. refl)) h.used
 UsedSound-row s b (Publish i) h k _ = UsedSound-is _ _ (id_at-with_published s b i) (entries_in-changed s.cycle (with_mark Trusted i) (λ c. refl)) h.used

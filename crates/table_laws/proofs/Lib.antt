@@ -31,7 +31,9 @@ pub mod CyclesStay
 pub mod OthersStay
 pub mod SafeStays
 pub mod RestStays
+pub mod FieldsStay
 pub mod Steadiness
 pub mod SoundHistories
 pub mod StoredValues
 pub mod Causes
+pub mod Versions

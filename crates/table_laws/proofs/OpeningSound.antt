@@ -59,6 +59,7 @@ IsSound-opening limits range = record {
     hidden = λ b i is. absurd (cc);
     settled = λ b c i is. refl;
     one_ticket = λ b c i is other. absurd (cc);
+    mutators = λ b i is. absurd (cc);
   };
   cycle = tt;
 }

@@ -108,9 +108,9 @@ reached-row s b (Put p i tag value) h k o r = inl r
 reached-row s b (Bind f w) h k o r =
     inl (if_either (λ t. IsReachable t o → IsReachable s o) (s.words f == 0) (with_bound s b f w) (with_unbound s b f w) (λ q. q) (λ q. q) r)
 reached-row s b (Name f) h k o r = inl r
-reached-row s b (Look p w tag) h k o r = inl r
-reached-row s b (Set w tag value) h k o r = inl r
-reached-row s b (Swap w tag value) h k o r = inl r
+reached-row s b (Look p w first last) h k o r = inl r
+reached-row s b (Set w first last value) h k o r = inl r
+reached-row s b (Swap w first last value) h k o r = inl r
 reached-row s b (Forge number w) h k o r = inl r
 reached-row s b (Publish i) h k o r = inl r
 reached-row s b (Mark p i) h k o r = inl r

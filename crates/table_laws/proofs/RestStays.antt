@@ -1,6 +1,6 @@
 -- Steadiness of the rest: behind an event beside the cycle's start and finish used indexes stay used, an index becomes
--- fresh only by a put into an empty one, a bound field of a reachable object keeps its id and word while it is bound, and
--- the objects and puts so far grow.
+-- fresh only by a put into an empty one, a bound field keeps its id and word while it is bound, and the objects and puts so
+-- far grow.
 use Rattle.std.proofs.Common.{◌≡◌, ◌≢◌, ℕ, ◌≤◌, true, Option, Some, None, IsTrue, IsSome, refl, sym, ◌∙◌, subst, inl, inr, arith, eqb-true}
 use Rattle.std.specs.Prelude.{◌⊎◌, nat_lt, ◌==◌}
 use Rattle.plain_table.specs.declared.events.Act.{Act}
@@ -13,6 +13,7 @@ use Rattle.plain_table.specs.declared.events.Field.TheVariants as field
 use Rattle.plain_table.specs.declared.events.Spot.TheVariants.{Global, Ref}
 use Rattle.plain_table.specs.Index.{index_of}
 use Rattle.plain_table.specs.Places.{space_of, object_of, put_field}
+use Rattle.plain_table.specs.Reachable.Reaches.{By_variable}
 use Rattle.plain_table.specs.Table.{Table, least_free}
 use Rattle.plain_table.specs.Finish.{IsReachable, id_at}
 use Rattle.plain_table.specs.Rows.{row, free_below, with_object, with_taken, with_cell, with_bound, with_unbound, with_forged}
@@ -72,9 +73,9 @@ FreshSteady-row s b (Start policy) h k beside = absurd beside
 FreshSteady-row s b Finish h k beside = absurd beside
 FreshSteady-row s b _ h k beside = λ c p i is. inl is
 
--- a bound field of a reachable object keeps its id and its word as long as it stays bound
+-- a bound field keeps its id and its word as long as it stays bound
 abbrev pub BoundSteady : Table → Table → Type 0
-BoundSteady s t = (f : Field) (id : ℕ) → IsReachable s (object_of f) → s.bound f ≡ Some id → IsSome (t.bound f) →
+BoundSteady s t = (f : Field) (id : ℕ) → s.bound f ≡ Some id → IsSome (t.bound f) →
     (t.bound f ≡ Some id) × (t.words f ≡ s.words f)
 
 -- a bound field of a reachable object names a cell, and so not index 0
@@ -84,37 +85,38 @@ words-bound s f id h reach bound zero =
     let here : id_at s (space_of f) 0 ≡ Some id = subst (λ w. id_at s (space_of f) (index_of w) ≡ Some id) zero own in
     (h.used.cells (space_of f) 0 (subst IsSome (sym here) refl)).1 refl
 
-pub BoundSteady-bind : (s : Table) (b : ℕ) (f : Field) (w : ℕ) → IsSound s → s.words f ≡ 0 → BoundSteady s (with_bound s b f w)
-BoundSteady-bind s b f w h free g id reach bound some =
+-- a bind into a field whose word is 0: the field's object is held, and so reachable, and the field was not bound
+pub BoundSteady-bind : (s : Table) (b : ℕ) (f : Field) (w : ℕ) → IsSound s → IsReachable s (object_of f) → s.words f ≡ 0 → BoundSteady s (with_bound s b f w)
+BoundSteady-bind s b f w h reach free g id bound some =
     elim (read_field (id_at s (space_of f) (index_of w)) s.bound f g) [ inl r ↦ clash r.0 | inr r ↦ (r.1 ∙ bound, put_field-other s.words f g w r.0) ]
   where
     clash : f ≡ g → (put_field s.bound f (id_at s (space_of f) (index_of w)) g ≡ Some id) × (put_field s.words f w g ≡ s.words g)
-    clash same = absurd (words-bound s g id h reach bound (subst (λ x. s.words x ≡ 0) same free))
+    clash same = absurd (words-bound s g id h (subst (λ x. IsReachable s (object_of x)) same reach) bound (subst (λ x. s.words x ≡ 0) same free))
 
 pub BoundSteady-forged : (s : Table) (number w : ℕ) → BoundSteady s (with_forged s number w)
-BoundSteady-forged s number w g id reach bound some = elim (read_field None s.bound (field.External number) g) [
+BoundSteady-forged s number w g id bound some = elim (read_field None s.bound (field.External number) g) [
   | inl r ↦ absurd (IsSome-none (put_field s.bound (field.External number) None g) r.1 some)
   | inr r ↦ (r.1 ∙ bound, put_field-other s.words (field.External number) g w r.0)
 ]
 
-pub BoundSteady-row : (s : Table) (b : ℕ) (a : Act) → IsSound s → IsBeside a → BoundSteady s (row s b a).next
-BoundSteady-row s b (New var) h beside =
+pub BoundSteady-row : (s : Table) (b : ℕ) (a : Act) → IsSound s → (row s b a).allowed → IsBeside a → BoundSteady s (row s b a).next
+BoundSteady-row s b (New var) h k beside =
     if_either (BoundSteady s) (nat_lt s.count s.sizes.objects) (with_object s b var) s
-    (λ f id reach bound some. (bound, refl)) (λ f id reach bound some. (bound, refl))
-BoundSteady-row s b (Link (Global g) var) h beside = λ f id reach bound some. (bound, refl)
-BoundSteady-row s b (Link (Ref object k) var) h beside = λ f id reach bound some. (bound, refl)
-BoundSteady-row s b (Take p) h beside =
-    with_taken_either (BoundSteady s) s b p (least_free s p) (λ f id reach bound some. (bound, refl)) (λ i f id reach bound some. (bound, refl))
-BoundSteady-row s b (Below start) h beside =
+    (λ f id bound some. (bound, refl)) (λ f id bound some. (bound, refl))
+BoundSteady-row s b (Link (Global g) var) h k beside = λ f id bound some. (bound, refl)
+BoundSteady-row s b (Link (Ref object n) var) h k beside = λ f id bound some. (bound, refl)
+BoundSteady-row s b (Take p) h k beside =
+    with_taken_either (BoundSteady s) s b p (least_free s p) (λ f id bound some. (bound, refl)) (λ i f id bound some. (bound, refl))
+BoundSteady-row s b (Below start) h k beside =
     with_taken_either (BoundSteady s) s b External (free_below s start)
-    (λ f id reach bound some. (bound, refl)) (λ i f id reach bound some. (bound, refl))
-BoundSteady-row s b (Bind f w) h beside =
+    (λ f id bound some. (bound, refl)) (λ i f id bound some. (bound, refl))
+BoundSteady-row s b (Bind f w) h k beside =
     if_by (BoundSteady s) (s.words f == 0) (with_bound s b f w) (with_unbound s b f w)
-    (λ free. BoundSteady-bind s b f w h (eqb-true (s.words f) 0 free)) (λ taken g id reach bound some. (bound, refl))
-BoundSteady-row s b (Forge number w) h beside = BoundSteady-forged s number w
-BoundSteady-row s b (Start policy) h beside = absurd beside
-BoundSteady-row s b Finish h beside = absurd beside
-BoundSteady-row s b _ h beside = λ f id reach bound some. (bound, refl)
+    (λ free. BoundSteady-bind s b f w h (By_variable b k.0.0 (object_of f) k.0.2) (eqb-true (s.words f) 0 free)) (λ taken g id bound some. (bound, refl))
+BoundSteady-row s b (Forge number w) h k beside = BoundSteady-forged s number w
+BoundSteady-row s b (Start policy) h k beside = absurd beside
+BoundSteady-row s b Finish h k beside = absurd beside
+BoundSteady-row s b _ h k beside = λ f id bound some. (bound, refl)
 
 -- the objects and the puts so far
 abbrev pub CountsSteady : Table → Table → Type 0

@@ -13,6 +13,7 @@ use Rattle.table_laws.proofs.CellsStay.{CellsSteady-row}
 use Rattle.table_laws.proofs.OthersStay.{OthersSteady-row}
 use Rattle.table_laws.proofs.CyclesStay.{CyclesSteady-row}
 use Rattle.table_laws.proofs.SafeStays.{SafeSteady-row}
+use Rattle.table_laws.proofs.FieldsStay.{SizesSteady-row, FieldsSteady-row, ReferencesSteady-row}
 use Rattle.table_laws.proofs.RestStays.{UsedSteady-row, FreshSteady-row, BoundSteady-row, CountsSteady-row}
 
 pub IsSteady-row : (s : Table) (b : ℕ) (a : Act) (said : Reply) → IsSound s → IsLegal s (record { by = b; act = a; said = said }) → IsBeside a →
@@ -24,7 +25,10 @@ IsSteady-row s b a said h k beside = record {
   safe = SafeSteady-row s b a said h k beside;
   used = UsedSteady-row s b a beside;
   fresh = FreshSteady-row s b a h k.0 beside;
-  bound = BoundSteady-row s b a h beside;
+  bound = BoundSteady-row s b a h k.0 beside;
+  sizes = SizesSteady-row s b a beside;
+  fields = FieldsSteady-row s b a said k.1 beside;
+  references = ReferencesSteady-row s b a said beside;
   count = (CountsSteady-row s b a beside).0;
   next = (CountsSteady-row s b a beside).1;
 }

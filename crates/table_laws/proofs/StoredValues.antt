@@ -1,6 +1,6 @@
 -- Stored values: each cell has the tag of its put and the value last stored in it, as the history alone tells. So do the
 -- cells of live holders, and each value that a look answers was stored.
-use Rattle.std.proofs.Common.{◌≡◌, ℕ, ◌<◌, ◌==◌, Bool, true, false, ◌&&◌, List, [], ◌∷◌, Option, Some, None, sym, refl, ap, ◌∙◌, subst₂, arith, inl, inr, eqb-true, IsTrue, IsSomeAnd}
+use Rattle.std.proofs.Common.{◌≡◌, ℕ, ◌<◌, ◌==◌, Bool, true, false, ◌&&◌, List, [], ◌∷◌, Option, Some, None, sym, refl, ap, ◌∙◌, subst₂, arith, inl, inr, IsTrue, IsSomeAnd}
 use Rattle.std.specs.Prelude.{if◌then◌else◌, nat_lt}
 use Rattle.std.specs.Option.{option_map}
 use Rattle.plain_table.specs.declared.events.Act.{Act}
@@ -19,7 +19,7 @@ use Rattle.plain_table.specs.Cycle.{Cycle}
 use Rattle.plain_table.specs.Table.{Table, opening, least_free}
 use Rattle.plain_table.specs.Finish.{swept, id_at}
 use Rattle.plain_table.specs.Holders.{IsLiveHolder}
-use Rattle.plain_table.specs.Rows.{row, seen_under, object_in, free_below, with_object, with_bound, with_unbound}
+use Rattle.plain_table.specs.Rows.{row, is_asked, seen_under, object_in, free_below, with_object, with_bound, with_unbound}
 use Rattle.plain_table.specs.History.{IsLegalHistory, next, after}
 use Rattle.plain_table.specs.Sound.{IdsSound, IsSound}
 use Rattle.table_laws.specs.Stored.{Stored, store_at, stored_next, stored_behind, nothing_stored}
@@ -109,10 +109,10 @@ CellsStored-row s b (Put p i tag value) stored sound h =
     CellsStored-put s.cells stored s.next p i tag value (same_space p External) sound.ids h
 CellsStored-row s b (Bind f word) stored sound h = if_either (λ t. CellsStored t.cells stored) (s.words f == 0) (with_bound s b f word) (with_unbound s b f word) h h
 CellsStored-row s b (Name f) stored sound h = h
-CellsStored-row s b (Look p word tag) stored sound h = h
-CellsStored-row s b (Set word tag value) stored sound h =
+CellsStored-row s b (Look p word first last) stored sound h = h
+CellsStored-row s b (Set word first last value) stored sound h =
     CellsStored-value s.cells stored s.next (index_of word) value (s.cells External (index_of word)) refl sound.ids h
-CellsStored-row s b (Swap word tag value) stored sound h =
+CellsStored-row s b (Swap word first last value) stored sound h =
     CellsStored-value s.cells stored s.next (index_of word) value (s.cells External (index_of word)) refl sound.ids h
 CellsStored-row s b (Forge number word) stored sound h = h
 CellsStored-row s b (Publish i) stored sound h = CellsStored-shown s.cells stored i (s.cells Trusted i) refl h
@@ -144,21 +144,21 @@ IsLiveHolder-own s stored f id sound h (binds, reached, (p, i, seen)) =
     stored_with stored id (s.cells q j) (h q j)
     (subst₂ (λ (r : Space) (k : ℕ). IsSomeAnd (s.cells r k) (λ c. (c.id ≡ id) × IsTrue c.shown)) same.0 same.1 seen)
 
--- a look that answers a value found a cell with the tag
-look_found : (stored : Stored) (shown same : Bool) (c : Cell) (tag value : ℕ) → (same ≡ true → c.tag ≡ tag) → HasStored stored c →
-    reply.Value value ≡ (if shown && same then reply.Value c.value else reply.Fault) → stored c.id ≡ Some (tag, value)
-look_found stored false same c tag value tags h said = absurd (cc)
-look_found stored true false c tag value tags h said = absurd (cc)
-look_found stored true true c tag value tags h said =
-    let values : value ≡ c.value = cc in
-    h ∙ ap (λ (t : ℕ). Some (t, c.value)) (tags refl) ∙ ap (λ (v : ℕ). Some (tag, v)) (sym values)
+-- a look that answers a value found a cell whose tag is asked, with that value
+look_found : (shown asked : Bool) (c : Cell) (value : ℕ) →
+    reply.Value value ≡ (if shown && asked then reply.Value c.value else reply.Fault) → IsTrue asked × (c.value ≡ value)
+look_found false asked c value said = absurd (cc)
+look_found true false c value said = absurd (cc)
+look_found true true c value said = (refl, let values : value ≡ c.value = cc in sym values)
 
-look_stored : (stored : Stored) (null : Bool) (found : Option Cell) (tag value : ℕ) → ((c : Cell) → found ≡ Some c → HasStored stored c) →
-    reply.Value value ≡ (if null then reply.Null else seen_under found tag) → (id : ℕ) × (stored id ≡ Some (tag, value))
-look_stored stored true found tag value h said = absurd (cc)
-look_stored stored false None tag value h said = absurd (cc)
-look_stored stored false (Some c) tag value h said =
-    (c.id, look_found stored c.shown (c.tag == tag) c tag value (eqb-true c.tag tag) (h c refl) said)
+look_stored : (stored : Stored) (null : Bool) (found : Option Cell) (first last value : ℕ) → ((c : Cell) → found ≡ Some c → HasStored stored c) →
+    reply.Value value ≡ (if null then reply.Null else seen_under found first last) →
+    (id : ℕ) × (tag : ℕ) × (option_map (λ (c : Cell). c.id) found ≡ Some id) × (stored id ≡ Some (tag, value)) × IsTrue (is_asked first last tag)
+look_stored stored true found first last value h said = absurd (cc)
+look_stored stored false None first last value h said = absurd (cc)
+look_stored stored false (Some c) first last value h said =
+    let seen = look_found c.shown (is_asked first last c.tag) c value said in
+    (c.id, c.tag, refl, h c refl ∙ ap (λ (v : ℕ). Some (c.tag, v)) seen.1, seen.0)
 
 module _ (keeps : EventsKeepSoundness) where
   pub CellsStored-after : (es : List Event) (s : Table) (stored : Stored) → IsSound s → IsLegalHistory s es → CellsStored s.cells stored →
@@ -179,6 +179,6 @@ module _ (keeps : EventsKeepSoundness) where
         (histories-sound keeps opens limits es range legal) (CellsStored-behind limits es range legal) holder
 
     pub values-stored : ValuesWereStored
-    values-stored limits es p w tag value b range legal look =
-        look_stored (stored_behind (opening limits) es nothing_stored) (index_of w == 0) ((after (opening limits) es).cells p (index_of w)) tag value
+    values-stored limits es p w first last value b range legal look =
+        look_stored (stored_behind (opening limits) es nothing_stored) (index_of w == 0) ((after (opening limits) es).cells p (index_of w)) first last value
         (CellsStored-behind limits es range legal p (index_of w)) look.1
