@@ -9,3 +9,5 @@ pub mod CycleParts
 pub mod WordPlaces
 pub mod FreeLists
 pub mod ScansGoOn
+pub mod SpacesShown
+pub mod SegmentEnds

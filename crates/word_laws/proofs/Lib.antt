@@ -9,3 +9,6 @@ pub mod CountWords
 pub mod HeaderWords
 pub mod FreelistReads
 pub mod FreelistWords
+pub mod NearWords
+pub mod CommittedSpaces
+pub mod CommittedWords

@@ -1,1 +1,5 @@
 pub mod WordLaws
+pub mod Small
+pub mod SegmentLaws
+pub mod CoverLaws
+pub mod ReadLaws
