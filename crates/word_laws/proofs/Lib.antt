@@ -12,3 +12,5 @@ pub mod FreelistWords
 pub mod NearWords
 pub mod CommittedSpaces
 pub mod CommittedWords
+pub mod CoveredWords
+pub mod CoverSteps
