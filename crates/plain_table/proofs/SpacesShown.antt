@@ -1,5 +1,5 @@
 -- What words show of one space, and which indexes of a space hold what: a cell stands at a used index below the limit.
-use Rattle.std.proofs.Common.{◌≡◌, ◌<◌, ℕ, List, Option, Some, IsSome, IsTrue, is_some, option_map, sym, ap, ◌∙◌}
+use Rattle.std.proofs.Common.{◌<◌, ℕ, List, IsSome, IsTrue, ◌∙◌}
 use Rattle.plain_table.specs.declared.events.Cell.{Cell}
 use Rattle.plain_table.specs.declared.events.Space.{Space}
 use Rattle.plain_table.specs.declared.events.Space.TheVariants.{External, Trusted}

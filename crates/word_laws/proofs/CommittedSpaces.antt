@@ -1,11 +1,11 @@
 -- The words of one space after a commit: where they are as they were, and where the segment that begins at the end of the
 -- committed ones, which are all used, is added as free entries.
-use Rattle.std.proofs.Common.{◌≡◌, ◌≢◌, ◌+◌, ◌-◌, ◌*◌, ◌<◌, ◌≤◌, ℕ, zero, suc, Bool, false, not, nat_lt, unwrap_or, IsTrue, sym, ap, ap₂, ◌∙◌, inl, inr, arith, lt-ltb, le-ltb}
+use Rattle.std.proofs.Common.{◌≡◌, ◌+◌, ◌-◌, ◌<◌, ◌≤◌, ℕ, zero, suc, Bool, false, not, nat_lt, unwrap_or, IsTrue, sym, ap, ap₂, ◌∙◌, inl, inr, arith, lt-ltb, le-ltb}
 use Rattle.std.specs.Prelude.{if◌then◌else◌}
 use Rattle.std.proofs.lemmas.Bool.{cases_lt, cases_Bool, both_ways}
 use Rattle.plain_table.specs.declared.events.Space.{Space}
 use Rattle.plain_table.specs.Area.{count_below}
-use Rattle.plain_table.specs.Table.{Table, limit_of, least_from}
+use Rattle.plain_table.specs.Table.{Table, limit_of}
 use Rattle.plain_table.specs.Words.{free_word, freelist_word, next_free}
 use Rattle.plain_table.specs.Shows.{entry_at, SpaceShows}
 use Rattle.plain_table.proofs.LeastFree.{least_from-found, least_from-free, least_from-end}

@@ -1,6 +1,6 @@
 -- A commit of a segment: there are words in which it is committed, and these show the same table and are near the present
 -- words, whose entries were linked before.
-use Rattle.std.proofs.Common.{◌≡◌, ◌≢◌, ◌⊎◌, ℕ, zero, suc, ◌+◌, ◌-◌, ◌*◌, ◌/◌, ◌%◌, ◌^◌, ◌<◌, ◌≤◌, List, length, slice_index, slice_set, Option, Some, None, IsTrue, refl, sym, subst, ◌∙◌, inl, inr, arith, length-set, get_or-set_same, get_or-set_other}
+use Rattle.std.proofs.Common.{◌≡◌, ◌≢◌, ◌⊎◌, ℕ, zero, suc, ◌+◌, ◌-◌, ◌*◌, ◌^◌, ◌<◌, ◌≤◌, List, length, slice_index, slice_set, Option, Some, None, IsTrue, refl, sym, subst, ◌∙◌, inl, inr, arith, length-set, get_or-set_same, get_or-set_other}
 use Rattle.std.proofs.lemmas.Bool.{cases_lt}
 use Rattle.std.proofs.lemmas.Bool.Decides.{eqb_tells}
 use Rattle.std.proofs.lemmas.List.{get_or_past}
@@ -36,7 +36,7 @@ module _ (sizes : Sizes) (p : Space) (head : ℕ) (words : List ℕ) where
   linked_from-other zero place apart = refl
   linked_from-other (suc m) place apart =
       get_or-set_other (linked_from sizes p head m words) (entry_place sizes p (head + m)) place (free_word (head + m + 1)) 0
-          (apart (head + m) (omega arith) (omega arith))
+      (apart (head + m) (omega arith) (omega arith))
       ∙ linked_from-other m place (λ i from below. apart i from (omega (arith, below)))
 
   module _ (whole : length words ≡ words_in_all sizes) where
@@ -50,7 +50,7 @@ module _ (sizes : Sizes) (p : Space) (head : ℕ) (words : List ℕ) where
           (omega (arith, linked_from-length m, whole, entry_place-below sizes p (head + m) (omega (arith, room)))))
       | inr e ↦
           get_or-set_other (linked_from sizes p head m words) (entry_place sizes p (head + m)) (entry_place sizes p i) (free_word (head + m + 1)) 0
-              (λ same. e.1 (entry_place-same sizes p p i (head + m) (omega (arith, room, below)) (omega (arith, room)) same).1)
+          (λ same. e.1 (entry_place-same sizes p p i (head + m) (omega (arith, room, below)) (omega (arith, room)) same).1)
           ∙ linked_from-at m i (omega (arith, room)) from (omega (arith, below, e.1))
     ]
 
@@ -62,7 +62,7 @@ module _ (sizes : Sizes) (p : Space) (head : ℕ) (words : List ℕ) where
           (omega (arith, linked_from-length sizes.seg, whole, freelist_place-below p));
       linked = λ i from below.
           get_or-set_other (linked_from sizes p head sizes.seg words) (freelist_place p) (entry_place sizes p i) (freelist_word head sizes.seg) 0
-              (λ same. omega (arith, same, freelist_place-below p, entry_place-from sizes p i))
+          (λ same. omega (arith, same, freelist_place-below p, entry_place-from sizes p i))
           ∙ linked_from-at sizes.seg i room from below;
       others = λ place apart away.
           get_or-set_other (linked_from sizes p head sizes.seg words) (freelist_place p) place (freelist_word head sizes.seg) 0 apart
@@ -83,8 +83,8 @@ module _ {sizes : Sizes} {p : Space} {head : ℕ} {words committed : List ℕ} (
   IsCommitted-entry room q j less apart =
       is.others (entry_place sizes q j) (λ same. omega (arith, same, entry_place-from sizes q j, freelist_place-below p))
       (λ i from below same.
-        let one = entry_place-same sizes p q i j (omega (arith, room, below)) less (sym same) in
-        apart (one.0, omega (arith, one.1, from), omega (arith, one.1, below)))
+      let one = entry_place-same sizes p q i j (omega (arith, room, below)) less (sym same) in
+      apart (one.0, omega (arith, one.1, from), omega (arith, one.1, below)))
 
 -- the table is shown
 module _ (words committed : List ℕ) (s : Table) (p : Space) (head : ℕ) (sound : HasSoundIndexes s) (few : limit_of s p < 2 ^ 32) (shows : Shows words s)
@@ -121,11 +121,11 @@ module _ (words committed : List ℕ) (s : Table) (p : Space) (head : ℕ) (soun
       let first = own.1.used 0 (sound.first p) in (
         head + s.sizes.seg,
         subst (λ x. SpaceShows s p (λ i. slice_index committed (entry_place s.sizes p i)) x (head + s.sizes.seg)) (sym is.list)
-        (SpaceShows-grown s p sound (λ i. slice_index words (entry_place s.sizes p i)) (λ i. slice_index committed (entry_place s.sizes p i)) head
-        (omega (arith, end.0, first)) (segment-some s.sizes p head below) room (λ j less. end.1 j (omega (arith, end.0, less)))
-        (λ j less. entry p j (omega (arith, less, below)) (λ inside. omega (arith, inside.1, less)))
-        (λ j from less. entry p j less (λ inside. omega (arith, inside.2, from))) is.linked (slice_index words (freelist_place p))
-        (subst (λ x. SpaceShows s p (λ i. slice_index words (entry_place s.sizes p i)) (slice_index words (freelist_place p)) x) end.0 own.1)),
+            (SpaceShows-grown s p sound (λ i. slice_index words (entry_place s.sizes p i)) (λ i. slice_index committed (entry_place s.sizes p i)) head
+            (omega (arith, end.0, first)) (segment-some s.sizes p head below) room (λ j less. end.1 j (omega (arith, end.0, less)))
+            (λ j less. entry p j (omega (arith, less, below)) (λ inside. omega (arith, inside.1, less)))
+            (λ j from less. entry p j less (λ inside. omega (arith, inside.2, from))) is.linked (slice_index words (freelist_place p))
+            (subst (λ x. SpaceShows s p (λ i. slice_index words (entry_place s.sizes p i)) (slice_index words (freelist_place p)) x) end.0 own.1)),
       )
 
   space : (q : Space) → SpaceShownBy committed s q

@@ -14,3 +14,7 @@ pub mod CommittedSpaces
 pub mod CommittedWords
 pub mod CoveredWords
 pub mod CoverSteps
+pub mod EntryBits
+pub mod EntryReads
+pub mod LookReads
+pub mod AreaReads

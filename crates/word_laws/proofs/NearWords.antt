@@ -1,12 +1,12 @@
 -- Words near those that show a table: they stay near where one word changes in both, and where an entry that has no access
 -- is linked in the present ones; and what stands at an entry of the one list, by what stands there in the other.
-use Rattle.std.proofs.Common.{◌≡◌, ◌≢◌, ◌⊎◌, ◌+◌, ◌*◌, ◌<◌, ◌≤◌, ◌^◌, ℕ, List, length, slice_index, slice_set, refl, sym, ap, subst, ◌∙◌, inl, inr, arith, length-set, get_or-set_other}
+use Rattle.std.proofs.Common.{◌≡◌, ◌≢◌, ◌+◌, ◌<◌, ℕ, List, length, slice_index, slice_set, refl, sym, subst, ◌∙◌, inl, inr, arith, length-set, get_or-set_other}
 use Rattle.std.proofs.lemmas.Bool.{cases_lt}
 use Rattle.std.proofs.lemmas.Bool.Decides.{eqb_tells}
 use Rattle.std.proofs.lemmas.List.{get_or_past}
 use Rattle.plain_table.specs.declared.events.Space.{Space}
 use Rattle.plain_table.specs.Table.{Sizes, limit_in}
-use Rattle.plain_table.specs.Words.{header_place, entry_place, free_word, no_access_word}
+use Rattle.plain_table.specs.Words.{entry_place, free_word, no_access_word}
 use Rattle.plain_table.specs.Near.{IsNear, IsLinkedEntry}
 use Rattle.plain_table.proofs.WordPlaces.{entry_place-from, entry_place-same}
 use Rattle.word_laws.specs.SegmentLaws.{ChangedWordsStayNear, LinkedEntriesStayNear}

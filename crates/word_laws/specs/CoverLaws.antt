@@ -1,9 +1,9 @@
 -- The marking invariant after a step, by what the step changes: no header, the header of an object that is shaded, or that
 -- of one that is scanned. The step may be an event or none. Two tables are spoken of, those before and after it.
-use Rattle.std.specs.Prelude.{◌≡◌, ◌⊎◌, ℕ, ◌<◌, Bool, true, false, List, length, slice_index, slice_set, Option, Some, IsTrue, IsSomeAnd, IfSome}
+use Rattle.std.specs.Prelude.{◌≡◌, ◌⊎◌, ℕ, ◌<◌, Bool, true, List, length, slice_index, slice_set, Option, Some, IsTrue, IsSomeAnd, IfSome}
 use Rattle.plain_table.specs.Cycle.{Cycle, IsOld}
 use Rattle.plain_table.specs.Table.{Table}
-use Rattle.plain_table.specs.Words.{header_place, header_word, words_in_all}
+use Rattle.plain_table.specs.Words.{header_place, header_word}
 use Rattle.plain_table.specs.Shows.{IsShaded, IsScanned, IsCovered}
 
 -- where a cycle is under way after the step, one was before, and its old objects are old

@@ -1,6 +1,6 @@
 -- Sizes that are small enough for words: each space has at least one segment of at least one entry, its indexes fit the 16
 -- bits of an index word, and the numbers of the fields of all objects fit the 32 bits of an evacuation entry.
-use Rattle.std.specs.Prelude.{ℕ, ◌≤◌}
+use Rattle.std.specs.Prelude.{◌≤◌}
 use Rattle.plain_table.specs.declared.events.Space.{Space}
 use Rattle.plain_table.specs.Table.{Sizes, limit_in}
 
