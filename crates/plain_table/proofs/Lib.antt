@@ -11,3 +11,4 @@ pub mod FreeLists
 pub mod ScansGoOn
 pub mod SpacesShown
 pub mod SegmentEnds
+pub mod ObjectFields

@@ -18,3 +18,5 @@ pub mod EntryBits
 pub mod EntryReads
 pub mod LookReads
 pub mod AreaReads
+pub mod SmallSizes
+pub mod FreeBelowReads

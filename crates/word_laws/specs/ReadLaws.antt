@@ -1,7 +1,7 @@
 -- What is read in words: the cell that stands at an index, by the bits of its entry word, and what a look at it answers;
--- and the start of the evacuation area with the abort, by the area word. The entry words may be those that are near the
--- ones that show the table.
-use Rattle.std.specs.Prelude.{◌≡◌, ◌≢◌, ℕ, ◌/◌, ◌%◌, ◌^◌, ◌<◌, ◌≤◌, ◌==◌, nat_le, Bool, ◌&&◌, if◌then◌else◌, List, slice_index, Option, Some, None, IsSome, IfSome}
+-- the start of the evacuation area and the abort, by the area word; and whether a free index is left below the area, by
+-- the freelist word. The entry words may be those that are near the ones that show the table.
+use Rattle.std.specs.Prelude.{◌≡◌, ◌≢◌, ◌⊎◌, ℕ, ◌/◌, ◌%◌, ◌^◌, ◌<◌, ◌≤◌, ◌==◌, nat_le, Bool, ◌&&◌, if◌then◌else◌, List, slice_index, Option, Some, None, IsSome, IfSome}
 use Rattle.plain_table.specs.declared.events.Cell.{Cell}
 use Rattle.plain_table.specs.declared.events.Space.{Space}
 use Rattle.plain_table.specs.declared.events.Space.TheVariants.{External}
@@ -10,9 +10,9 @@ use Rattle.plain_table.specs.declared.reports.Reply.TheVariants as reply
 use Rattle.plain_table.specs.Index.{index_of}
 use Rattle.plain_table.specs.Cycle.{Cycle, start_in}
 use Rattle.plain_table.specs.Table.{Table, Sizes, limit_in, limit_of}
-use Rattle.plain_table.specs.Rows.{is_asked, look}
+use Rattle.plain_table.specs.Rows.{is_asked, look, free_below}
 use Rattle.plain_table.specs.Sound.{IsSound}
-use Rattle.plain_table.specs.Words.{area_place, entry_place, cell_word}
+use Rattle.plain_table.specs.Words.{area_place, freelist_place, entry_place, cell_word}
 use Rattle.plain_table.specs.Near.{IsNear}
 use Rattle.plain_table.specs.Shows.{Shows}
 use Rattle.word_laws.specs.Small.{AreSmall}
@@ -79,3 +79,14 @@ pub record AreaTells (s : Table) (word : ℕ) : Type 0 where
 abbrev pub AreaWordsTell : Type 0
 AreaWordsTell =
     (words : List ℕ) (s : Table) → IsSound s → AreSmall s.sizes → Shows words s → AreaTells s (slice_index words area_place)
+
+-- by the head and the length of the external freelist, the least free index below a start: none, where the list is empty
+-- or its head is not below the start, and else the head
+pub record FreeBelowTells (s : Table) (start head len : ℕ) : Type 0 where
+  pub none : (len ≡ 0) ⊎ (start ≤ head) → free_below s start ≡ None
+  pub some : len ≢ 0 → head < start → free_below s start ≡ Some head
+
+abbrev pub FreeBelowRead : Type 0
+FreeBelowRead =
+    (words : List ℕ) (s : Table) (start : ℕ) → IsSound s → AreSmall s.sizes → Shows words s → start_in s.cycle ≡ Some start →
+    FreeBelowTells s start (slice_index words (freelist_place External) % 2 ^ 32) (slice_index words (freelist_place External) / 2 ^ 32)

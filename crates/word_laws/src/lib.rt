@@ -7,7 +7,7 @@
 #![tactic(auto)]
 
 ghost use Rattle.word_laws.specs.CoverLaws.{CoveredWordsStay, ScannedWordsStayCovered, ShadedWordsStayCovered};
-ghost use Rattle.word_laws.specs.ReadLaws.{AreaWordsTell, EntryWordsTell, LooksRead};
+ghost use Rattle.word_laws.specs.ReadLaws.{AreaWordsTell, EntryWordsTell, FreeBelowRead, LooksRead};
 ghost use Rattle.word_laws.specs.SegmentLaws.{ChangedWordsStayNear, CommittedWordsFollow, CommittedWordsStayNear, LinkedEntriesStayNear, SegmentsCanBeCommitted};
 ghost use Rattle.word_laws.specs.WordLaws.{AreaWordsFollow, CellWordsFollow, CountWordsFollow, EvacuationWordsFollow, FieldWordsFollow, FreelistWordsFollow, FreelistsTell, LinkWordsFollow, ScanWordsFollow, ShadedWordsStay, WordsStay};
 
@@ -126,4 +126,10 @@ pub fn looks_read()
 /// compaction is aborted.
 pub fn area_words_tell()
     ensures { AreaWordsTell }
+{}
+
+/// The least free index below the evacuation area is the head of the external freelist, where the list is not empty and its
+/// head is below the area, and else there is none.
+pub fn free_below_read()
+    ensures { FreeBelowRead }
 {}
