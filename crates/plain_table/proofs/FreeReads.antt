@@ -44,3 +44,11 @@ next_free-le used i end = by_case (least_from used i (end - i)) refl
     by_case : (found : Option ℕ) → least_from used i (end - i) ≡ found → unwrap_or found end ≤ end
     by_case None is = omega arith
     by_case (Some k) is = let told = least_from-some used i (end - i) k is in omega (arith, told.1, told.2)
+
+-- nor before the first index that is looked at
+pub next_free-ge : (used : ℕ → Bool) (i end : ℕ) → i ≤ end → i ≤ next_free used i end
+next_free-ge used i end within = by_case (least_from used i (end - i)) refl
+  where
+    by_case : (found : Option ℕ) → least_from used i (end - i) ≡ found → i ≤ unwrap_or found end
+    by_case None is = within
+    by_case (Some k) is = (least_from-some used i (end - i) k is).1

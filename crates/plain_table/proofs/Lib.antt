@@ -12,3 +12,4 @@ pub mod ScansGoOn
 pub mod SpacesShown
 pub mod SegmentEnds
 pub mod ObjectFields
+pub mod Rewrites

@@ -7,25 +7,17 @@ use Rattle.plain_table.specs.Cycle.{Cycle, start_in}
 use Rattle.plain_table.specs.Table.{Table, limit_of}
 use Rattle.plain_table.specs.Sound.{IsSound}
 use Rattle.plain_table.specs.Words.{area_place, area_word}
-use Rattle.plain_table.proofs.AreaStarts.{greatest_below-lt}
+use Rattle.plain_table.proofs.AreaStarts.{greatest_below-or_zero_lt}
 use Rattle.plain_table.proofs.CycleParts.{CycleSound-is}
 use Rattle.word_laws.specs.Small.{AreSmall}
 use Rattle.word_laws.specs.ReadLaws.{AreaWordsTell}
-
--- the greatest used index is below the limit
-greatest-below : (set : ℕ → Bool) (n : ℕ) → 1 ≤ n → unwrap_or (greatest_below set n) 0 < n
-greatest-below set n some = by_case (greatest_below set n) refl
-  where
-    by_case : (found : Option ℕ) → greatest_below set n ≡ found → unwrap_or found 0 < n
-    by_case None is = some
-    by_case (Some m) is = greatest_below-lt set n m is
 
 -- the start of a cycle in a sound table
 pub start-within : (s : Table) (c : Cycle) (start : ℕ) → IsSound s → AreSmall s.sizes → s.cycle ≡ Some c → c.start ≡ Some start →
     (1 ≤ start) × (start < limit_of s External)
 start-within s c start sound small is begins =
     let area = (CycleSound-is s c sound is).area.segment start begins in
-    (omega (arith, area.1, small.seg), omega (arith, area.2, greatest-below (s.used External) (limit_of s External) (small.some External)))
+    (omega (arith, area.1, small.seg), omega (arith, area.2, greatest_below-or_zero_lt (s.used External) (limit_of s External) (small.some External)))
 
 -- the word of a start below 2^32, by its parts
 abbrev start_by : ℕ → Option ℕ

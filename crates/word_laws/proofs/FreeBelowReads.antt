@@ -13,7 +13,7 @@ use Rattle.plain_table.specs.Rows.{only_below, free_below}
 use Rattle.plain_table.specs.Sound.{IsSound}
 use Rattle.plain_table.specs.Words.{freelist_place, entry_place}
 use Rattle.plain_table.specs.Shows.{Shows}
-use Rattle.plain_table.proofs.AreaStarts.{greatest_below-is}
+use Rattle.plain_table.proofs.AreaStarts.{greatest_below-member}
 use Rattle.plain_table.proofs.CycleParts.{CycleSound-is}
 use Rattle.word_laws.specs.Small.{AreSmall}
 use Rattle.word_laws.specs.WordLaws.{FreelistTells}
@@ -26,14 +26,6 @@ only_below-none start (Some i) high = ap (λ (test : Bool). if test then Some i 
 
 only_below-found : (start i : ℕ) → i < start → only_below start (Some i) ≡ Some i
 only_below-found start i below = ap (λ (test : Bool). if test then Some i else None) (lt-ltb i start below)
-
--- the greatest of some numbers is one of them
-pub greatest_below-member : (set : ℕ → Bool) (n : ℕ) → IsTrue (set 0) → IsTrue (set (unwrap_or (greatest_below set n) 0))
-greatest_below-member set n first = by_case (greatest_below set n) refl
-  where
-    by_case : (found : Option ℕ) → greatest_below set n ≡ found → IsTrue (set (unwrap_or found 0))
-    by_case None is = first
-    by_case (Some m) is = (greatest_below-is set n m is).member
 
 -- the start is in a committed segment
 start-committed : (s : Table) (c : Cycle) (start committed : ℕ) → IsSound s → s.cycle ≡ Some c → c.start ≡ Some start →
