@@ -1,6 +1,6 @@
 -- Reading an entry: which word stands at an index, by what stands there, and that the bits of the word tell the cell; in
 -- the words that show the table, and in those near them.
-use Rattle.std.proofs.Common.{◌≡◌, ◌≢◌, ◌+◌, ◌/◌, ◌^◌, ◌%◌, ◌<◌, ◌≤◌, ◌==◌, ℕ, Bool, List, slice_index, Option, Some, None, IsTrue, IfSome, refl, sym, ap, ◌∙◌, inl, inr, arith}
+use Rattle.std.proofs.Common.{◌≡◌, ◌≢◌, ◌+◌, ◌/◌, ◌^◌, ◌%◌, ◌<◌, ◌≤◌, ◌==◌, ℕ, Bool, List, slice_index, Option, Some, None, IfSome, refl, sym, ap, ◌∙◌, inl, inr, arith}
 use Rattle.std.proofs.lemmas.Bool.{cases_Bool, cases_lt}
 use Rattle.std.proofs.lemmas.Bool.Decides.{eqb_tells}
 use Rattle.plain_table.specs.declared.events.Cell.{Cell}
@@ -35,41 +35,44 @@ module _ (s : Table) (sound : IsSound s) (few : s.sizes.objects ≤ 16384) where
   entry_at-few External i number entry = number-few i number s.cycle refl entry
   entry_at-few Trusted i number entry = absurd (cc)
 
--- the word at an index where no cell stands
-pub data IsEmptyWord (i : ℕ) (word : ℕ) : Type 0 where
-  Null : i ≡ 0 → word ≡ 0 → IsEmptyWord i word
-  Free : (next : ℕ) → next < 2 ^ 32 → word ≡ free_word next → IsEmptyWord i word
-  Evacuation : (number : ℕ) → number < 2 ^ 32 → word ≡ evacuation_word number → IsEmptyWord i word
-  NoAccess : word ≡ no_access_word → IsEmptyWord i word
+-- the word at an index where no cell stands, by the evacuation entry that stands there or not
+pub data IsEmptyWord (entry : Option ℕ) (i : ℕ) (word : ℕ) : Type 0 where
+  Null : entry ≡ None → i ≡ 0 → word ≡ 0 → IsEmptyWord entry i word
+  Free : (next : ℕ) → entry ≡ None → next < 2 ^ 32 → word ≡ free_word next → IsEmptyWord entry i word
+  NoAccess : entry ≡ None → word ≡ no_access_word → IsEmptyWord entry i word
+  Evacuation : (number : ℕ) → entry ≡ Some number → number < 2 ^ 32 → word ≡ evacuation_word number → IsEmptyWord entry i word
 
 module _ (s : Table) (sound : IsSound s) (small : AreSmall s.sizes) (p : Space) (entry : ℕ → ℕ) (freelist committed : ℕ)
     (shows : SpaceShows s p entry freelist committed) where
-  word-used : (i : ℕ) → 1 ≤ i → IsTrue (s.used p i) → s.cells p i ≡ None → (found : Option ℕ) → entry_at s p i ≡ found → IsEmptyWord i (entry i)
-  word-used i later used empty None is =
-      let word = shows.empty i (record { used = used; later = later; no_cell = empty; no_entry = is }) in
-      Free word.0 word.1 word.2
-  word-used i later used empty (Some number) is =
-      Evacuation number (entry_at-few s sound small.objects p i number is) (shows.evacuated i number is)
-
-  pub word-empty : (i : ℕ) → i < limit_of s p → s.cells p i ≡ None → IsEmptyWord i (entry i)
-  word-empty i below empty = elim (eqb_tells i 0) [
-    | inl zero_index ↦ Null zero_index.1 (ap entry zero_index.1 ∙ shows.null)
+  word-no_entry : (i : ℕ) → i < limit_of s p → s.cells p i ≡ None → entry_at s p i ≡ None → IsEmptyWord (entry_at s p i) i (entry i)
+  word-no_entry i below empty none = elim (eqb_tells i 0) [
+    | inl first ↦ Null none first.1 (ap entry first.1 ∙ shows.null)
     | inr later ↦ elim (cases_Bool (s.used p i)) [
-      | inl used ↦ word-used i (omega (arith, later.1)) used empty (entry_at s p i) refl
+      | inl used ↦
+          let word = shows.empty i (record { used = used; later = omega (arith, later.1); no_cell = empty; no_entry = none }) in
+          Free word.0 none word.1 word.2
       | inr free ↦ elim (cases_lt i committed) [
         | inl less ↦
             let next = next_free-le (s.used p) (i + 1) committed in
-            Free (next_free (s.used p) (i + 1) committed) (omega (arith, next, shows.within, small.few p)) (shows.free i (omega (arith, later.1)) less free)
-        | inr past ↦ NoAccess (shows.closed i past below)
+            Free (next_free (s.used p) (i + 1) committed) none (omega (arith, next, shows.within, small.few p))
+            (shows.free i (omega (arith, later.1)) less free)
+        | inr past ↦ NoAccess none (shows.closed i past below)
       ]
     ]
   ]
 
-tag_bits-empty : (i word : ℕ) → IsEmptyWord i word → tag_bits word ≡ 0
-tag_bits-empty i word (Null zero_index is) = ap tag_bits is
-tag_bits-empty i word (Free next few is) = ap tag_bits is ∙ tag_bits-free next (omega (arith, few))
-tag_bits-empty i word (Evacuation number few is) = ap tag_bits is ∙ tag_bits-evacuation number (omega (arith, few))
-tag_bits-empty i word (NoAccess is) = ap tag_bits is
+  pub word-empty : (i : ℕ) → i < limit_of s p → s.cells p i ≡ None → IsEmptyWord (entry_at s p i) i (entry i)
+  word-empty i below empty = by_entry (entry_at s p i) refl
+    where
+      by_entry : (found : Option ℕ) → entry_at s p i ≡ found → IsEmptyWord (entry_at s p i) i (entry i)
+      by_entry None none = word-no_entry i below empty none
+      by_entry (Some number) is = Evacuation number is (entry_at-few s sound small.objects p i number is) (shows.evacuated i number is)
+
+tag_bits-empty : (entry : Option ℕ) (i word : ℕ) → IsEmptyWord entry i word → tag_bits word ≡ 0
+tag_bits-empty entry i word (Null none first is) = ap tag_bits is
+tag_bits-empty entry i word (Free next none few is) = ap tag_bits is ∙ tag_bits-free next (omega (arith, few))
+tag_bits-empty entry i word (NoAccess none is) = ap tag_bits is
+tag_bits-empty entry i word (Evacuation number there few is) = ap tag_bits is ∙ tag_bits-evacuation number (omega (arith, few))
 
 -- the word at an index where a cell stands
 module _ (shown : List ℕ) (s : Table) (p : Space) (i : ℕ) (sound : IsSound s) (shows : Shows shown s) where
@@ -116,7 +119,7 @@ module _ (words shown : List ℕ) (s : Table) (p : Space) (i : ℕ) (sound : IsS
     | inl same ↦
         let space = Shows-space shown s p shows in
         ap tag_bits same
-        ∙ tag_bits-empty i (slice_index shown (entry_place s.sizes p i))
+        ∙ tag_bits-empty (entry_at s p i) i (slice_index shown (entry_place s.sizes p i))
         (word-empty s sound small p (λ j. slice_index shown (entry_place s.sizes p j)) (slice_index shown (freelist_place p)) space.0 space.1 i below empty)
     | inr linked ↦ ap tag_bits linked.1 ∙ tag_bits-free (i + 1) (omega (arith, below, small.few p))
   ]

@@ -1,21 +1,18 @@
 -- The least free index below the area, by the freelist word of the external space: its head, where it is below the start,
 -- and else none, since the start is at most the greatest used index and so in a committed segment.
-use Rattle.std.proofs.Common.{◌≡◌, ◌≢◌, ◌⊎◌, ◌/◌, ◌%◌, ◌^◌, ◌<◌, ◌≤◌, ℕ, Bool, true, false, List, slice_index, Option, Some, None, IsTrue, refl, sym, ap, ◌∙◌, inl, inr, arith, lt-ltb, le-ltb}
+use Rattle.std.proofs.Common.{◌≡◌, ◌⊎◌, ◌/◌, ◌%◌, ◌^◌, ◌<◌, ◌≤◌, ℕ, Bool, true, false, slice_index, Option, Some, None, IsTrue, refl, sym, ap, ◌∙◌, inl, inr, arith, lt-ltb, le-ltb}
 use Rattle.std.specs.Prelude.{if◌then◌else◌, nat_lt, unwrap_or}
-use Rattle.std.proofs.lemmas.Bool.{cases_lt}
 use Rattle.std.proofs.lemmas.Bool.Decides.{eqb_tells}
 use Rattle.std.proofs.lemmas.Option.{same_Some}
 use Rattle.plain_table.specs.declared.events.Space.TheVariants.{External}
 use Rattle.plain_table.specs.Area.{greatest_below}
 use Rattle.plain_table.specs.Cycle.{Cycle, start_in}
 use Rattle.plain_table.specs.Table.{Table, limit_of, least_free}
-use Rattle.plain_table.specs.Rows.{only_below, free_below}
+use Rattle.plain_table.specs.Rows.{only_below}
 use Rattle.plain_table.specs.Sound.{IsSound}
 use Rattle.plain_table.specs.Words.{freelist_place, entry_place}
-use Rattle.plain_table.specs.Shows.{Shows}
 use Rattle.plain_table.proofs.AreaStarts.{greatest_below-member}
 use Rattle.plain_table.proofs.CycleParts.{CycleSound-is}
-use Rattle.word_laws.specs.Small.{AreSmall}
 use Rattle.word_laws.specs.WordLaws.{FreelistTells}
 use Rattle.word_laws.specs.ReadLaws.{FreeBelowTells, FreeBelowRead}
 use Rattle.word_laws.proofs.FreelistReads.{FreelistsTell-shown}
@@ -33,7 +30,7 @@ start-committed : (s : Table) (c : Cycle) (start committed : ℕ) → IsSound s 
 start-committed s c start committed sound is begins used =
     let most = ((CycleSound-is s c sound is).area.segment start begins).2 in
     let below = used (unwrap_or (greatest_below (s.used External) (limit_of s External)) 0)
-        (greatest_below-member (s.used External) (limit_of s External) (sound.used.first External)) in
+    (greatest_below-member (s.used External) (limit_of s External) (sound.used.first External)) in
     omega (arith, most, below)
 
 chosen : (test : Bool) (n i : ℕ) → (if test then Some n else None) ≡ Some i → n ≡ i

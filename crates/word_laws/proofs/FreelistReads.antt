@@ -5,7 +5,7 @@ use Rattle.std.specs.Prelude.{if◌then◌else◌, nat_lt}
 use Rattle.std.proofs.lemmas.Bool.{cases_lt, cases_Bool, not_from_true, not_from_false}
 use Rattle.plain_table.specs.declared.events.Space.{Space}
 use Rattle.plain_table.specs.Area.{count_below}
-use Rattle.plain_table.specs.Table.{Table, limit_of, least_from}
+use Rattle.plain_table.specs.Table.{Table, limit_of, least_from, least_free}
 use Rattle.plain_table.specs.Words.{freelist_place, entry_place, freelist_word, next_free}
 use Rattle.plain_table.specs.Shows.{entry_at}
 use Rattle.word_laws.specs.WordLaws.{FreelistTells, FreelistsTell}
@@ -112,3 +112,11 @@ FreelistsTell-shown words s p h shows few =
       FreelistTells-by s p (λ i. slice_index words (entry_place s.sizes p i)) (slice_index words (freelist_place p)) space.0 h few space.1
           (least_from (s.used p) 1 (space.0 - 1)) refl,
     )
+
+-- an empty list whose head is not below the limit leaves no free index
+pub FreelistTells-full : (s : Table) (p : Space) (entry : ℕ → ℕ) (head len committed : ℕ) → FreelistTells s p entry head len committed →
+    len ≡ 0 → limit_of s p ≤ head → least_free s p ≡ None
+FreelistTells-full s p entry head len committed tells none past =
+    tells.least none
+    ∙ ap (λ (test : Bool). if test then Some committed else None)
+    (le-ltb committed (limit_of s p) (let end = tells.end none in omega (arith, end, past)))

@@ -20,3 +20,6 @@ pub mod LookReads
 pub mod AreaReads
 pub mod SmallSizes
 pub mod FreeBelowReads
+pub mod WordKinds
+pub mod EntryKinds
+pub mod PhaseReads

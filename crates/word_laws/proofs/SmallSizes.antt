@@ -1,5 +1,5 @@
 -- Sizes of limits that a table can have are small.
-use Rattle.std.proofs.Common.{◌≡◌, ◌⊎◌, ◌*◌, ◌≤◌, ℕ, inl, inr, arith}
+use Rattle.std.proofs.Common.{◌*◌, ◌≤◌, ℕ, inl, inr, arith}
 use Rattle.plain_table.specs.declared.events.Space.{Space}
 use Rattle.plain_table.specs.declared.events.Space.TheVariants.{External, Trusted}
 use Rattle.plain_table.specs.declared.scripts.Limits.{Limits}

@@ -3,3 +3,4 @@ pub mod Small
 pub mod SegmentLaws
 pub mod CoverLaws
 pub mod ReadLaws
+pub mod Kinds

@@ -1,14 +1,14 @@
 -- What is read in words: the cell that stands at an index, by the bits of its entry word, and what a look at it answers;
 -- the start of the evacuation area and the abort, by the area word; and whether a free index is left below the area, by
 -- the freelist word. The entry words may be those that are near the ones that show the table.
-use Rattle.std.specs.Prelude.{◌≡◌, ◌≢◌, ◌⊎◌, ℕ, ◌/◌, ◌%◌, ◌^◌, ◌<◌, ◌≤◌, ◌==◌, nat_le, Bool, ◌&&◌, if◌then◌else◌, List, slice_index, Option, Some, None, IsSome, IfSome}
+use Rattle.std.specs.Prelude.{◌≡◌, ◌≢◌, ◌⊎◌, ℕ, ◌/◌, ◌%◌, ◌^◌, ◌<◌, ◌≤◌, ◌==◌, nat_le, Bool, ◌&&◌, ◌||◌, if◌then◌else◌, List, slice_index, Option, Some, None, IsSome, IfSome}
 use Rattle.plain_table.specs.declared.events.Cell.{Cell}
 use Rattle.plain_table.specs.declared.events.Space.{Space}
 use Rattle.plain_table.specs.declared.events.Space.TheVariants.{External}
 use Rattle.plain_table.specs.declared.reports.Reply.{Reply}
 use Rattle.plain_table.specs.declared.reports.Reply.TheVariants as reply
 use Rattle.plain_table.specs.Index.{index_of}
-use Rattle.plain_table.specs.Cycle.{Cycle, start_in}
+use Rattle.plain_table.specs.Cycle.{Cycle, start_in, moves_from}
 use Rattle.plain_table.specs.Table.{Table, Sizes, limit_in, limit_of}
 use Rattle.plain_table.specs.Rows.{is_asked, look, free_below}
 use Rattle.plain_table.specs.Sound.{IsSound}
@@ -74,6 +74,8 @@ pub record AreaTells (s : Table) (word : ℕ) : Type 0 where
   pub start : start_in s.cycle ≡ (if word % 2 ^ 32 == 0 then None else Some (word % 2 ^ 32))
   pub aborted : IfSome s.cycle (λ c. c.aborted ≡ (word / 2 ^ 32 == 1))
   pub idle : s.cycle ≡ None → word ≡ 0
+  -- cells move from the start, where there is one and the compaction is not aborted
+  pub moves : IfSome s.cycle (λ c. moves_from c ≡ (if (word == 0) || nat_le (2 ^ 32) word then None else Some word))
   pub within : (first : ℕ) → start_in s.cycle ≡ Some first → (1 ≤ first) × (first < limit_of s External)
 
 abbrev pub AreaWordsTell : Type 0

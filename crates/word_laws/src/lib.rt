@@ -7,6 +7,7 @@
 #![tactic(auto)]
 
 ghost use Rattle.word_laws.specs.CoverLaws.{CoveredWordsStay, ScannedWordsStayCovered, ShadedWordsStayCovered};
+ghost use Rattle.word_laws.specs.Kinds.{EntryKindsTell};
 ghost use Rattle.word_laws.specs.ReadLaws.{AreaWordsTell, EntryWordsTell, FreeBelowRead, LooksRead};
 ghost use Rattle.word_laws.specs.SegmentLaws.{ChangedWordsStayNear, CommittedWordsFollow, CommittedWordsStayNear, LinkedEntriesStayNear, SegmentsCanBeCommitted};
 ghost use Rattle.word_laws.specs.WordLaws.{AreaWordsFollow, CellWordsFollow, CountWordsFollow, EvacuationWordsFollow, FieldWordsFollow, FreelistWordsFollow, FreelistsTell, LinkWordsFollow, ScanWordsFollow, ShadedWordsStay, WordsStay};
@@ -132,4 +133,10 @@ pub fn area_words_tell()
 /// head is below the area, and else there is none.
 pub fn free_below_read()
     ensures { FreeBelowRead }
+{}
+
+/// In a cycle the range of an entry word tells whether a cell or an evacuation entry stands at the index, and whether the
+/// cell is marked.
+pub fn entry_kinds_tell()
+    ensures { EntryKindsTell }
 {}
