@@ -3,7 +3,7 @@
 //! Each law is a function that does nothing and whose contract is the law: a caller may cite it. There is a law for each
 //! kind of word (`specs/WordLaws.antt`: of fields, entries, references and globals, the count, the area, headers and
 //! freelists); for a segment that is being committed (`SegmentLaws.antt`); for the marking invariant after a step
-//! (`CoverLaws.antt`); and for what is read in words (`ReadLaws.antt`).
+//! (`CoverLaws.antt`); and for what is read in words (`ReadLaws.antt`, `Kinds.antt`).
 #![tactic(auto)]
 
 ghost use Rattle.word_laws.specs.CoverLaws.{CoveredWordsStay, ScannedWordsStayCovered, ShadedWordsStayCovered};
