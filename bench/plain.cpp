@@ -3,7 +3,9 @@
 // and runs the same scripts: those of one mutator and no marker, with no meet but the end, and nine operations.
 // Nothing of it is proved or part of the gate. `bench/scripts.sh` builds it by `c++ -O2 -std=c++17`.
 #include <array>
+#include <bitset>
 #include <cerrno>
+#include <charconv>
 #include <csignal>
 #include <cstdint>
 #include <new>
@@ -128,15 +130,14 @@ private:
 
     void split(std::string_view line) {
         count_ = 0;
-        for (std::size_t begin = 0;;) {
-            std::size_t end = line.find(' ', begin);
-            if (end == std::string_view::npos) end = line.size();
-            if (count_ < words_.size()) words_[count_] = line.substr(begin, end - begin);
+        std::size_t begin = 0;
+        for (std::size_t end = 0; end <= line.size(); ++end) {
+            if (end < line.size() && line[end] != ' ') continue;
+            if (count_ < words_.size()) words_[count_] = {line.data() + begin, end - begin};
             ++count_;
-            if (end == line.size()) break;
             begin = end + 1;
         }
-        for (std::size_t i = count_; i < words_.size(); ++i) words_[i] = {};
+        if (count_ == 1) words_[1] = {};
     }
 
     Refusal take_header(Script& script) {
@@ -193,7 +194,7 @@ private:
             else if (!read_variable(word, op.other)) refuse(Refusal::bad_line);
             break;
         case 't':
-            if (!read_digits(word, 2, digits) || __builtin_popcountll(digits) != 4) refuse(Refusal::bad_tag);
+            if (!read_digits(word, 2, digits) || std::bitset<8>(digits).count() != 4) refuse(Refusal::bad_tag);
             op.tag = static_cast<std::uint8_t>(digits);
             break;
         case 'w':
@@ -234,10 +235,14 @@ void put_hex(std::string& out, std::uint64_t number, std::size_t digits) {
     out.append(text.data(), digits);
 }
 
+void put_number(std::string& out, std::uint32_t number) {
+    std::array<char, 10> text;
+    out.append(text.data(), std::to_chars(text.data(), text.data() + text.size(), number).ptr);
+}
+
 void put_mutator(std::string& out, std::size_t mutator) {
-    out += 'm';
-    out += std::to_string(mutator);
-    out += ' ';
+    const std::array<char, 3> text{'m', static_cast<char>('0' + mutator), ' '};
+    out.append(text.data(), text.size());
 }
 
 std::string refusal_text(Refusal refusal, std::uint32_t line) {
@@ -262,7 +267,7 @@ void put_operation(std::string& out, std::size_t mutator, const Op& op) {
         case 't': put_hex(out, op.tag, 2); break;
         case 'w': put_hex(out, op.word, 8); break;
         case 'x': put_hex(out, op.value, 12); break;
-        default: out += std::to_string(op.number);
+        default: put_number(out, op.number);
         }
     }
     out += '\n';
@@ -348,7 +353,9 @@ private:
             return;
         }
         variables_[op.variable] = objects_;
-        out += "obj " + std::to_string(objects_++) + "\n";
+        out += "obj ";
+        put_number(out, objects_++);
+        out += '\n';
     }
 
     void init(std::uint32_t& field, const Op& op, std::string& out) {

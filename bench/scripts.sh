@@ -77,9 +77,8 @@ for kind in loads inits stores raw comment; do
                 echo "bench: the two programs differ at $form of $count $kind"
                 exit 1
             fi
-            ours=$(python3 "$top/bench/least.py" "$runs" "$work/script" "$program" "$form") || exit 1
-            theirs=$(python3 "$top/bench/least.py" "$runs" "$work/script" "$plain" "$form") || exit 1
-            row="$row $ours ms | $theirs ms | $(echo "$ours $theirs" | awk '{ printf "%.1f", $1 / $2 }') |"
+            times=$(python3 "$top/bench/least.py" "$runs" "$work/script" "$form" "$program" "$plain") || exit 1
+            row="$row $(echo "$times" | awk '{ printf "%s ms | %s ms | %.1f", $1, $2, $1 / $2 }') |"
         done
         echo "$row $(memory "$program") MiB | $(memory "$plain") MiB |"
     done
