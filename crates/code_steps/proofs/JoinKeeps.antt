@@ -37,6 +37,10 @@ knows_both opening lists words v u kn ku = record {
       (store_stays opening lists lists v.seen (both v u).seen (λ j. starts_self (list_at lists j)) kn.seen up v.own kn.own)
       (store_stays opening lists lists u.seen (both v u).seen (λ j. starts_self (list_at lists j)) ku.seen up_other u.own ku.own);
   shown = λ i. subst (Each (λ n. n ≤ sequence_word words i)) (sym (shown_both v u same_shown i)) (each_append (λ n. n ≤ sequence_word words i) (list_at v.shown i) (list_at u.shown i) (kn.shown i) (ku.shown i));
+  earlier = (
+    of_both_long in_turn v.earlier u.earlier same_earlier ∙ kn.earlier.0,
+    λ i. subst (Each (λ n. n ≤ sequence_word words i)) (sym (of_both_at in_turn v.earlier u.earlier i refl same_earlier)) (each_append (λ n. n ≤ sequence_word words i) (list_at v.earlier i) (list_at u.earlier i) (kn.earlier.1 i) (ku.earlier.1 i)),
+  );
   place = kn.place;
   low = kn.low;
   read = kn.read;
@@ -48,6 +52,9 @@ knows_both opening lists words v u kn ku = record {
 
     same_shown : length v.shown ≡ length u.shown
     same_shown = kn.sizes.1 ∙ sym ku.sizes.1
+
+    same_earlier : length v.earlier ≡ length u.earlier
+    same_earlier = kn.earlier.0 ∙ sym ku.earlier.0
 
     up : (j : ℕ) → length (list_at v.seen j) ≤ length (list_at (both v u).seen j)
     up j = let a = (longer_long (list_at v.seen j) (list_at u.seen j)).0 in let b = ap length (seen_both v u same j) in omega arith

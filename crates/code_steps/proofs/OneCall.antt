@@ -1,10 +1,18 @@
 -- The steps of a read and of a write, one after another.
-use Rattle.std.proofs.Common.{◌≡◌, ℕ, ◌%◌, ◌<◌, [], ◌∷◌, ◌++◌, length, sym, ap, ◌∙◌, subst, append_assoc}
+use Rattle.std.proofs.Common.{◌≡◌, ℕ, ◌%◌, ◌≤◌, ◌<◌, List, [], ◌∷◌, ◌++◌, length, sym, ap, ◌∙◌, subst, append_assoc}
 use Rattle.code_steps.specs.declared.view.View.{View}
-use Rattle.code_steps.specs.Lists.{Pair, list_at, grown_at, EndsWith, store_of}
+use Rattle.code_steps.specs.Lists.{Pair, Each, list_at, grown_at, EndsWith, store_of}
+use Rattle.code_steps.specs.Views.{known_at}
 use Rattle.code_steps.specs.Steps.{LoadedSequence, Claimed, Released, Stored}
-use Rattle.code_steps.specs.Calls.{Looked}
-use Rattle.code_steps.proofs.Prefixes.{grown_twice}
+use Rattle.code_steps.specs.Calls.{RiseFrom, Looked}
+use Rattle.code_steps.proofs.Prefixes.{grown_here, grown_twice}
+
+-- what is known behind a load of the sequence
+known_loaded : (v v1 : View) (at found : ℕ) → at < length v.shown → LoadedSequence v at found v1 → known_at v1 at ≡ known_at v at ++ found ∷ []
+known_loaded v v1 at found low t =
+    ap (λ (earlier : List (List ℕ)). list_at earlier at ++ list_at v1.shown at) t.same.earlier
+    ∙ (ap (λ (l : List ℕ). list_at v.earlier at ++ l) (ap (λ shown. list_at shown at) t.shown ∙ grown_here v.shown at (found ∷ []) low)
+    ∙ sym (append_assoc (list_at v.earlier at) (list_at v.shown at) (found ∷ [])))
 
 -- a load of the sequence, of each number, and of the sequence again
 module _ (v v1 v2 v3 v4 : View) (at first code entry second : ℕ) (low : at < length v.seen) (low_shown : at < length v.shown) (t1 : LoadedSequence v at first v1) (e2 : v2 ≡ record v1 { code = code }) (e3 : v3 ≡ record v2 { entry = entry }) (t4 : LoadedSequence v3 at second v4) where
@@ -13,6 +21,9 @@ module _ (v v1 v2 v3 v4 : View) (at first code entry second : ℕ) (low : at < l
 
   pub read_shown : v4.shown ≡ grown_at v.shown at (first ∷ second ∷ [])
   read_shown = again.shown ∙ (ap (λ shown. grown_at shown at (second ∷ [])) t1.shown ∙ grown_twice v.shown at (first ∷ []) (second ∷ []) low_shown)
+
+  pub read_rises : RiseFrom (known_at v at) (first ∷ second ∷ [])
+  read_rises = (t1.rises, (subst (Each (λ n. n ≤ second)) (known_loaded v v1 at first low_shown t1) again.rises, tt))
 
   pub read_looked : Looked v at v4
   read_looked = record { more = t1.more ++ again.more; seen = again.seen ∙ (ap (λ seen. grown_at seen at again.more) t1.seen ∙ grown_twice v.seen at t1.more again.more low); own = again.own ∙ t1.own }
@@ -23,6 +34,9 @@ module _ (v v1 v2 v3 v4 : View) (at first code entry second : ℕ) (low : at < l
 -- a load of the sequence and an exchange
 pub claim_shown : (v v1 v2 : View) (at expected found : ℕ) → at < length v.shown → LoadedSequence v at expected v1 → Claimed v1 at expected found v2 → v2.shown ≡ grown_at v.shown at (expected ∷ found ∷ [])
 claim_shown v v1 v2 at expected found low t1 t2 = t2.shown ∙ (ap (λ shown. grown_at shown at (found ∷ [])) t1.shown ∙ grown_twice v.shown at (expected ∷ []) (found ∷ []) low)
+
+pub claim_rises : (v v1 v2 : View) (at expected found : ℕ) → at < length v.shown → LoadedSequence v at expected v1 → Claimed v1 at expected found v2 → RiseFrom (known_at v at) (expected ∷ found ∷ [])
+claim_rises v v1 v2 at expected found low t1 t2 = (t1.rises, (subst (Each (λ n. n ≤ found)) (known_loaded v v1 at expected low t1) t2.rises, tt))
 
 -- and then a swap of each number, and the release
 module _ (v v1 v2 v3 v4 v5 : View) (at expected found code entry seq : ℕ) (low : at < length v.seen) (low_shown : at < length v.shown) (t1 : LoadedSequence v at expected v1) (t2 : Claimed v1 at expected found v2) (e3 : v3 ≡ record v2 { code = code }) (e4 : v4 ≡ record v3 { entry = entry }) (t5 : Released v4 at seq v5) where

@@ -8,7 +8,7 @@
 #![tactic(auto)]
 
 mod calls;
-pub mod plays;
+mod plays;
 mod seat;
 mod table;
 #[cfg(test)]

@@ -13,7 +13,7 @@ use atomic_table::Seat;
 /// its parts, what it has seen, its own stores and what its steps showed.
 #[derive(Drop)]
 pub struct CodeSeat {
-    pub seat: Seat<(), View>,
+    pub(crate) seat: Seat<(), View>,
     ghost bare: { seat.me.1 ≡ [] },
 }
 
