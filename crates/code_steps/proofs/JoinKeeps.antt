@@ -6,7 +6,7 @@ use Rattle.atomic_table.specs.Table.{Joins}
 use Rattle.atomic_table.proofs.Lists.{set_else}
 use Rattle.code_steps.specs.declared.view.View.{View}
 use Rattle.code_steps.specs.Lists.{Pair, total, StartsWith, Each, list_at, longer, shorter, in_turn, IsSeenStore}
-use Rattle.code_steps.specs.Views.{both, spent}
+use Rattle.code_steps.specs.Views.{both, spent, known_at}
 use Rattle.code_steps.specs.Seats.{HasPlace}
 use Rattle.code_steps.specs.Rule.{sequence_word, holds_at, Knows, Ruled}
 use Rattle.code_steps.proofs.Totals.{total_set, total_append}
@@ -95,6 +95,7 @@ both_place words v u p q =
       some = let c = p.some in omega arith;
       sized = let c = p.sized in omega arith;
       shown = b ∙ (p.shown ∙ sym a);
+      earlier = of_both_long in_turn v.earlier u.earlier (p.earlier ∙ (same ∙ sym q.earlier)) ∙ (p.earlier ∙ sym a);
       even = p.even;
       at = let c = p.at in omega arith;
     }
@@ -107,3 +108,16 @@ begins_both v u same told i =
     let t : StartsWith (longer (list_at v.seen i) (list_at u.seen i)) (shorter (list_at v.seen i) (list_at u.seen i)) = subst (StartsWith (longer (list_at v.seen i) (list_at u.seen i))) (told_both v u same i) (subst (λ (l : List Pair). StartsWith l (list_at (both v u).told i)) l (told i)) in
     let r = from_shorter (list_at v.seen i) (list_at u.seen i) t in
     (subst (λ (l : List Pair). StartsWith l (list_at v.seen i)) (sym l) r.0, subst (λ (l : List Pair). StartsWith l (list_at u.seen i)) (sym l) r.1)
+
+-- the joined seat knows what each of the two knew
+pub both_known : (words : ℕ) (v u : View) (i : ℕ) (weight : ℕ → ℕ) → HasPlace words v → HasPlace words u → total weight (known_at (both v u) i) ≡ total weight (known_at v i) + total weight (known_at u i)
+both_known words v u i weight p q =
+    let same : length v.seen ≡ length u.seen = let a = p.sized in let b = q.sized in omega arith in
+    let is_earlier : total weight (list_at (both v u).earlier i) ≡ total weight (list_at v.earlier i ++ list_at u.earlier i) = ap (total weight) (of_both_at in_turn v.earlier u.earlier i refl (p.earlier ∙ (same ∙ sym q.earlier))) in
+    let is_shown : total weight (list_at (both v u).shown i) ≡ total weight (list_at v.shown i ++ list_at u.shown i) = ap (total weight) (shown_both v u (p.shown ∙ (same ∙ sym q.shown)) i) in
+    let a = total_append weight (list_at v.earlier i) (list_at u.earlier i) in
+    let b = total_append weight (list_at v.shown i) (list_at u.shown i) in
+    let c = total_append weight (list_at (both v u).earlier i) (list_at (both v u).shown i) in
+    let d = total_append weight (list_at v.earlier i) (list_at v.shown i) in
+    let e = total_append weight (list_at u.earlier i) (list_at u.shown i) in
+    omega arith

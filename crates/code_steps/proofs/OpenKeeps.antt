@@ -106,6 +106,7 @@ opening_place start pairs even some_pair =
       some = omega arith;
       sized = let b = words_long start pairs in omega arith;
       shown = map_long _ pairs ∙ sym a;
+      earlier = map_long _ pairs ∙ sym a;
       even = even;
       at = omega arith;
     }

@@ -1,10 +1,10 @@
 -- A split keeps the rule.
-use Rattle.std.proofs.Common.{◌≡◌, ℕ, zero, suc, ◌+◌, ◌≤◌, ◌<◌, false, List, [], ◌∷◌, ◌++◌, map, length, set, refl, sym, ap, ◌∙◌, subst, ⊎_elim, arith}
+use Rattle.std.proofs.Common.{◌≡◌, ℕ, zero, suc, ◌+◌, ◌≤◌, ◌<◌, false, List, [], ◌∷◌, ◌++◌, map, length, set, refl, sym, ap, ◌∙◌, subst, ⊎_elim, arith, append-nil}
 use Rattle.atomic_table.specs.Table.{Splits}
 use Rattle.atomic_table.proofs.Lists.{at_snoc}
 use Rattle.code_steps.specs.declared.view.View.{View}
 use Rattle.code_steps.specs.Lists.{total, Each, list_at, in_turn}
-use Rattle.code_steps.specs.Views.{giver, newcomer, spent}
+use Rattle.code_steps.specs.Views.{giver, newcomer, spent, known_at}
 use Rattle.code_steps.specs.Seats.{HasPlace}
 use Rattle.code_steps.specs.Rule.{sequence_word, holds_at, Knows, Ruled}
 use Rattle.code_steps.proofs.Prefixes.{map_long, of_both_long, of_both_at}
@@ -71,7 +71,13 @@ splits id v two free s k at = record {
     }
 
 pub giver_place : (words : ℕ) (v : View) → HasPlace words v → 2 ≤ v.parts → HasPlace words (giver v)
-giver_place words v p two = record { some = omega arith; sized = p.sized; shown = p.shown; even = p.even; at = p.at }
+giver_place words v p two = record { some = omega arith; sized = p.sized; shown = p.shown; earlier = p.earlier; even = p.even; at = p.at }
 
 pub newcomer_place : (words : ℕ) (v : View) → HasPlace words v → HasPlace words (newcomer v)
-newcomer_place words v p = record { some = omega arith; sized = p.sized; shown = map_long _ v.shown ∙ p.shown; even = p.even; at = p.at }
+newcomer_place words v p = record { some = omega arith; sized = p.sized; shown = map_long _ v.shown ∙ p.shown; earlier = of_both_long in_turn v.earlier v.shown (p.earlier ∙ sym p.shown) ∙ p.earlier; even = p.even; at = p.at }
+
+-- the new seat knows what the giver knew
+pub newcomer_known : (words : ℕ) (v : View) (i : ℕ) → HasPlace words v → known_at (newcomer v) i ≡ known_at v i
+newcomer_known words v i p =
+    ap (λ (l : List ℕ). list_at (newcomer v).earlier i ++ l) (none_shown v.shown i)
+    ∙ (append-nil (list_at (newcomer v).earlier i) ∙ of_both_at in_turn v.earlier v.shown i refl (p.earlier ∙ sym p.shown))
