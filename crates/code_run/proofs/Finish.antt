@@ -328,8 +328,8 @@ module _ (old s a b c d t1 t2 t3 w xa xb xc xd : View) (n : ℕ) (wa wb : WriteC
       start_of : (x y : View) → y.start ≡ x.start → x.start ≡ 0 → y.start ≡ 0
       start_of x y is opening = is ∙ opening
 
-  pub ran : Ran old n report w
-  ran = record {
+  ran_report : Ran old n report w
+  ran_report = record {
     answers = answers;
     answered = answered;
     counts = counted;
@@ -348,3 +348,9 @@ module _ (old s a b c d t1 t2 t3 w xa xb xc xd : View) (n : ℕ) (wa wb : WriteC
     each = each;
     least = showed;
   }
+
+  -- of each report that has these counts
+  pub ran : (r : CodeReport) → r.done ≡ wa.done + wb.done → r.busy ≡ wa.busy + wb.busy → r.pairs ≡ rc.pairs + rd.pairs → r.again ≡ rc.again + rd.again → r.bad ≡ rc.bad + rd.bad → Ran old n r w
+  ran r done busy pairs again bad =
+      let same : report ≡ r = (λ i. record { done = sym done i; busy = sym busy i; pairs = sym pairs i; again = sym again i; bad = sym bad i }) in
+      subst (λ (x : CodeReport). Ran old n x w) same ran_report

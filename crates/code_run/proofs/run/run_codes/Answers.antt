@@ -57,3 +57,4 @@ returns-clause-ran g c =
     (let a = read.callers.0.0.1.sized in omega arith)
     (let a = read.callers.1.0.1.sized in omega arith)
     c.join-4.ensures.whole c.join-4.ensures.own
+    _ (omega arith) (omega arith) (omega arith) (omega arith) (omega arith)
