@@ -1,0 +1,2 @@
+pub mod TrustedEntries
+pub mod WorkedLaws
