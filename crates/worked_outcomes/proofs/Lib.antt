@@ -1,2 +1,4 @@
 pub mod Phases
+pub mod Objects
 pub mod TrustedProof
+pub mod MarkerProof

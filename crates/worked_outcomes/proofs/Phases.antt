@@ -1,11 +1,18 @@
--- What the parts of a phase need that are the same in each worked outcome: which numbers make events.
-use Rattle.std.proofs.Common.{◌≡◌, ◌⊎◌, ℕ, zero, suc, ◌+◌, ◌<◌, ◌≤◌, Bool, true, false, List, [], ◌∷◌, refl, arith, inl, inr}
-use Rattle.std.specs.Prelude.{◌||◌, ◌&&◌, nat_lt, nat_le, length, slice_index_or}
-use Rattle.std.specs.List.{All}
-use Rattle.std.proofs.lemmas.Bool.Decides.{nat_tests}
+-- What the parts of a phase need that are the same in each worked outcome: which numbers make events, that there is one
+-- mutator or one marker, and which fields an object has.
+use Rattle.std.proofs.Common.{◌≡◌, ◌⊎◌, ℕ, zero, suc, ◌+◌, ◌*◌, ◌<◌, ◌≤◌, Bool, true, false, List, [], ◌∷◌, refl, sym, ap, arith, inl, inr, subst, ◌∙◌}
+use Rattle.std.specs.Prelude.{◌||◌, ◌&&◌, if◌then◌else◌, nat_lt, nat_le, length, slice_index_or}
+use Rattle.std.specs.List.{All, Contains}
+use Rattle.std.proofs.lemmas.Bool.Decides.{nat_tests, eqb_tells}
 use Rattle.plain_table.specs.declared.scripts.Limits.{Limits}
 use Rattle.plain_table.specs.declared.events.Event.{Event}
-use Rattle.plain_table.specs.Belongs.{IsMarker}
+use Rattle.plain_table.specs.declared.events.Field.{Field}
+use Rattle.plain_table.specs.declared.events.Field.TheVariants as field
+use Rattle.plain_table.specs.Places.{object_of}
+use Rattle.plain_table.specs.Table.{Table}
+use Rattle.plain_table.specs.History.{next}
+use Rattle.plain_table.specs.Scans.{AreFieldsOf, IsReadBeside, Rest, Scans, Ends, Others}
+use Rattle.plain_table.specs.Belongs.{IsMarker, events_by}
 
 -- the number is that of a mutator or of a marker
 abbrev is_number : Limits → ℕ → Bool
@@ -18,11 +25,11 @@ are_numbers limits (e ∷ es) = is_number limits e.by && are_numbers limits es
 number-by : (limits : Limits) (b : ℕ) → is_number limits b ≡ true → (b < limits.mutators) ⊎ IsMarker limits b
 number-by limits b h = grind (arith, nat_tests)
 
-and_left : (a b : Bool) → (a && b) ≡ true → a ≡ true
+pub and_left : (a b : Bool) → (a && b) ≡ true → a ≡ true
 and_left true b h = refl
 and_left false b h = h
 
-and_right : (a b : Bool) → (a && b) ≡ true → b ≡ true
+pub and_right : (a b : Bool) → (a && b) ≡ true → b ≡ true
 and_right true b h = h
 and_right false b h = absurd (cc)
 
@@ -31,3 +38,38 @@ pub numbers-by : (limits : Limits) (es : List Event) → are_numbers limits es �
 numbers-by limits [] h k d within = absurd (omega arith)
 numbers-by limits (e ∷ es) h zero d within = number-by limits e.by (and_left _ _ h)
 numbers-by limits (e ∷ es) h (suc k) d within = numbers-by limits es (and_right _ _ h) k d (omega arith)
+
+-- one mutator has the number 0, and one marker the number 8
+pub one-mutator : (P : ℕ → Type 0) → P 0 → (b : ℕ) → b < 1 → P b
+one-mutator P here zero below = here
+one-mutator P here (suc b) below = absurd (omega arith)
+
+pub one-marker : (P : ℕ → Type 0) → P 8 → (b : ℕ) → (8 ≤ b) × (b < 9) → P b
+one-marker P here b is = let same : 8 ≡ b = omega (arith, is.0, is.1) in subst P same here
+
+-- the three fields of an object
+abbrev pub fields_of : ℕ → List Field
+fields_of o = field.External (2 * o) ∷ field.External (2 * o + 1) ∷ field.Trusted o ∷ []
+
+pub field-of : (o : ℕ) (f : Field) → object_of f ≡ o →
+    (f ≡ field.External (2 * o)) ⊎ (f ≡ field.External (2 * o + 1)) ⊎ (f ≡ field.Trusted o)
+field-of o (field.External n) e =
+    let parts : (n ≡ 2 * o) ⊎ (n ≡ 2 * o + 1) = grind arith in
+    elim parts [ inl p ↦ inl (ap field.External p) | inr p ↦ inr (inl (ap field.External p)) ]
+field-of o (field.Trusted n) e = inr (inr (ap field.Trusted e))
+
+pub fields-are : (o : ℕ) → AreFieldsOf o (fields_of o)
+fields-are o = (refl, λ f is. elim (field-of o f is) [
+  | inl p ↦ (0, omega arith, sym p)
+  | inr (inl p) ↦ (1, omega arith, sym p)
+  | inr (inr p) ↦ (2, omega arith, sym p)
+])
+
+-- a number that makes no event scans nothing
+pub scans-nothing : (b : ℕ) (s : Table) (es : List Event) → events_by b es ≡ [] → Scans (λ t o. Unit {0}) IsReadBeside b Rest s es Rest
+scans-nothing b s [] none = Ends Rest s
+scans-nothing b s (e ∷ es) none = elim (eqb_tells e.by b) [
+  | inl is ↦ absurd (let some : e ∷ events_by b es ≡ [] = sym (ap (λ (t : Bool). if t then e ∷ events_by b es else events_by b es) is.0) ∙ none in cc)
+  | inr other ↦ Others Rest s e es Rest other.1
+      (scans-nothing b (next s e) es (sym (ap (λ (t : Bool). if t then e ∷ events_by b es else events_by b es) other.0) ∙ none))
+]

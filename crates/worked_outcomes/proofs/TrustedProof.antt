@@ -8,7 +8,7 @@ use Rattle.plain_table.specs.History.{IsLegalHistory, after}
 use Rattle.plain_table.specs.Shapes.{MakesCalls, with_ticket}
 use Rattle.plain_table.specs.Belongs.{Belongs, HasTotals, whole, events_by}
 use Rattle.worked_outcomes.specs.TrustedEntries.{limits, script, parts, outcome, made, published}
-use Rattle.worked_outcomes.proofs.Phases.{numbers-by}
+use Rattle.worked_outcomes.proofs.Phases.{numbers-by, one-mutator}
 
 legal : IsLegalHistory (opening limits) (whole parts)
 legal =
@@ -27,29 +27,15 @@ legal =
 totals : HasTotals (after (opening limits) (whole parts)) (whole parts) outcome
 totals = record { live = refl; trusted = refl; objects = refl; sum = refl; puts = refl }
 
-calls_made : (b : ℕ) → b < 1 →
-    MakesCalls b None ((opening limits).vars b) (with_ticket None) (slice_index_or ((op.New 0 ∷ op.TNew 0 0x0f 5 ∷ op.TLoad 0 0x0f 0x0f ∷ []) ∷ []) b [])
-    (slice_index_or ((reply.Obj 0 ∷ reply.Ok ∷ reply.Fault ∷ []) ∷ []) b []) (events_by b made)
-calls_made zero below =
-    (take 1 made, drop 1 made, refl, refl,
-    (take 3 (drop 1 made), drop 4 made, refl, inr (1, refl),
-    (drop 4 made, [], refl, (word_of 1, refl), refl)))
-calls_made (suc b) below = absurd (omega arith)
-
-calls_published : (b : ℕ) → b < 1 →
-    MakesCalls b None ((after (opening limits) made).vars b) (with_ticket ((after (opening limits) made).ticket b))
-    (slice_index_or ((op.TPub 0 ∷ op.TLoad 0 0x0f 0x0f ∷ []) ∷ []) b []) (slice_index_or ((reply.Ok ∷ reply.Value 5 ∷ []) ∷ []) b []) (events_by b published)
-calls_published zero below =
-    (take 2 published, drop 2 published, refl, (word_of 1, inr (refl, refl)),
-    (drop 2 published, [], refl, (word_of 1, refl), refl))
-calls_published (suc b) below = absurd (omega arith)
-
 pub trusted-belongs : Belongs script parts outcome
 trusted-belongs = record {
   legal = legal;
   phases = (
     record {
-      calls = calls_made;
+      calls = one-mutator _
+          (take 1 made, drop 1 made, refl, refl,
+          (take 3 (drop 1 made), drop 4 made, refl, inr (1, refl),
+          (drop 4 made, [], refl, (word_of 1, refl), refl)));
       scans = λ b is. absurd (omega (arith, is.0, is.1));
       numbers = numbers-by limits made refl;
       roots = λ begins. absurd (cc);
@@ -58,7 +44,9 @@ trusted-belongs = record {
       meet = refl;
     },
     (record {
-      calls = calls_published;
+      calls = one-mutator _
+          (take 2 published, drop 2 published, refl, (word_of 1, inr (refl, refl)),
+          (drop 2 published, [], refl, (word_of 1, refl), refl));
       scans = λ b is. absurd (omega (arith, is.0, is.1));
       numbers = numbers-by limits published refl;
       roots = λ begins. absurd (cc);

@@ -1,2 +1,3 @@
 pub mod TrustedEntries
+pub mod ConcurrentMarker
 pub mod WorkedLaws
