@@ -3,7 +3,7 @@
 use Rattle.std.proofs.Common.{◌≡◌, ◌⊎◌, ℕ, zero, suc, ◌+◌, ◌*◌, ◌<◌, Bool, true, false, Option, List, [], ◌∷◌, Some, None, refl, arith, inl, inr, subst, sym, take}
 use Rattle.std.specs.Prelude.{IfSome, IsSome, IsSomeAnd, IsTrue, ◌&&◌, ◌||◌, nat_lt}
 use Rattle.std.specs.List.{Contains}
-use Rattle.std.proofs.lemmas.Bool.{or_cases}
+use Rattle.std.proofs.lemmas.Bool.{and_parts, or_cases}
 use Rattle.std.proofs.lemmas.Bool.Decides.{nat_tests}
 use Rattle.plain_table.specs.declared.events.Field.{Field}
 use Rattle.plain_table.specs.declared.events.Field.TheVariants as field
@@ -24,7 +24,7 @@ use Rattle.table_laws.proofs.OpeningSound.{IsSound-opening}
 use Rattle.table_laws.proofs.Soundness.{events-sound}
 use Rattle.table_laws.proofs.SoundHistories.{histories-sound}
 use Rattle.table_laws.proofs.FinishLaws.{CanFinish-scanned}
-use Rattle.worked_outcomes.proofs.Phases.{field-of, and_left, and_right}
+use Rattle.worked_outcomes.proofs.Phases.{field-of}
 
 pub IsSound-history : (limits : Limits) (es : List Event) → IsInRange limits → IsLegalHistory (opening limits) es → IsSound (after (opening limits) es)
 IsSound-history = histories-sound events-sound IsSound-opening
@@ -68,8 +68,8 @@ below-all test zero h o below = absurd (omega arith)
 below-all test (suc n) h o below =
     let parts : (o ≡ n) ⊎ (o < n) = grind arith in
     elim parts [
-      | inl same ↦ subst (λ (m : ℕ). test m ≡ true) (sym same) (and_left _ _ h)
-      | inr less ↦ below-all test n (and_right _ _ h) o less
+      | inl same ↦ subst (λ (m : ℕ). test m ≡ true) (sym same) (and_parts _ _ h).0
+      | inr less ↦ below-all test n (and_parts _ _ h).1 o less
     ]
 
 abbrev are_below : ℕ → List ℕ → Bool
@@ -79,9 +79,9 @@ are_below n (o ∷ os) = nat_lt o n && are_below n os
 below-each : (n : ℕ) (os : List ℕ) → are_below n os ≡ true → (o : ℕ) → Contains os o → o < n
 below-each n [] h o (k, within, is) = absurd (omega arith)
 below-each n (p ∷ os) h o (zero, within, is) =
-    let less : nat_lt p n ≡ true = and_left _ _ h in
+    let less : nat_lt p n ≡ true = (and_parts _ _ h).0 in
     let below : p < n = grind (arith, nat_tests) in subst (λ (m : ℕ). m < n) is below
-below-each n (p ∷ os) h o (suc k, within, is) = below-each n os (and_right _ _ h) o (k, omega arith, is)
+below-each n (p ∷ os) h o (suc k, within, is) = below-each n os (and_parts _ _ h).1 o (k, omega arith, is)
 
 -- a cycle may finish where each object that was made is scanned or born in it
 finish-in : (s : Table) → IsSound s → (cycle : Option Cycle) → s.cycle ≡ cycle → IsSome cycle →

@@ -1,8 +1,9 @@
 -- What the parts of a phase need that are the same in each worked outcome: which numbers make events, that there is one
 -- mutator or one marker, and which fields an object has.
-use Rattle.std.proofs.Common.{◌≡◌, ◌⊎◌, ℕ, zero, suc, ◌+◌, ◌*◌, ◌<◌, ◌≤◌, Bool, true, false, List, [], ◌∷◌, refl, sym, ap, arith, inl, inr, subst, ◌∙◌}
-use Rattle.std.specs.Prelude.{◌||◌, ◌&&◌, if◌then◌else◌, nat_lt, nat_le, length, slice_index_or}
+use Rattle.std.proofs.Common.{◌≡◌, ◌⊎◌, ℕ, zero, suc, ◌+◌, ◌*◌, ◌<◌, ◌≤◌, Bool, true, false, List, [], ◌∷◌, refl, sym, ap, arith, inl, inr, subst, ◌∙◌, eqb-true}
+use Rattle.std.specs.Prelude.{◌==◌, ◌||◌, ◌&&◌, if◌then◌else◌, nat_lt, nat_le, length, slice_index_or}
 use Rattle.std.specs.List.{All, Contains}
+use Rattle.std.proofs.lemmas.Bool.{and_parts}
 use Rattle.std.proofs.lemmas.Bool.Decides.{nat_tests, eqb_tells}
 use Rattle.plain_table.specs.declared.scripts.Limits.{Limits}
 use Rattle.plain_table.specs.declared.events.Event.{Event}
@@ -25,19 +26,20 @@ are_numbers limits (e ∷ es) = is_number limits e.by && are_numbers limits es
 number-by : (limits : Limits) (b : ℕ) → is_number limits b ≡ true → (b < limits.mutators) ⊎ IsMarker limits b
 number-by limits b h = grind (arith, nat_tests)
 
-pub and_left : (a b : Bool) → (a && b) ≡ true → a ≡ true
-and_left true b h = refl
-and_left false b h = h
-
-pub and_right : (a b : Bool) → (a && b) ≡ true → b ≡ true
-and_right true b h = h
-and_right false b h = absurd (cc)
-
 pub numbers-by : (limits : Limits) (es : List Event) → are_numbers limits es ≡ true →
     All (λ (e : Event). (e.by < limits.mutators) ⊎ IsMarker limits e.by) es
 numbers-by limits [] h k d within = absurd (omega arith)
-numbers-by limits (e ∷ es) h zero d within = number-by limits e.by (and_left _ _ h)
-numbers-by limits (e ∷ es) h (suc k) d within = numbers-by limits es (and_right _ _ h) k d (omega arith)
+numbers-by limits (e ∷ es) h zero d within = number-by limits e.by (and_parts _ _ h).0
+numbers-by limits (e ∷ es) h (suc k) d within = numbers-by limits es (and_parts _ _ h).1 k d (omega arith)
+
+abbrev are_by : ℕ → List Event → Bool
+are_by b [] = true
+are_by b (e ∷ es) = (e.by == b) && are_by b es
+
+pub own-by : (b : ℕ) (es : List Event) → are_by b es ≡ true → All (λ (e : Event). e.by ≡ b) es
+own-by b [] h k d within = absurd (omega arith)
+own-by b (e ∷ es) h zero d within = eqb-true e.by b (and_parts _ _ h).0
+own-by b (e ∷ es) h (suc k) d within = own-by b es (and_parts _ _ h).1 k d (omega arith)
 
 -- one mutator has the number 0, and one marker the number 8
 pub one-mutator : (P : ℕ → Type 0) → P 0 → (b : ℕ) → b < 1 → P b
@@ -59,11 +61,14 @@ field-of o (field.External n) e =
 field-of o (field.Trusted n) e = inr (inr (ap field.Trusted e))
 
 pub fields-are : (o : ℕ) → AreFieldsOf o (fields_of o)
-fields-are o = (refl, λ f is. elim (field-of o f is) [
-  | inl p ↦ (0, omega arith, sym p)
-  | inr (inl p) ↦ (1, omega arith, sym p)
-  | inr (inr p) ↦ (2, omega arith, sym p)
-])
+fields-are o = (
+  refl,
+  λ f is. elim (field-of o f is) [
+    | inl p ↦ (0, omega arith, sym p)
+    | inr (inl p) ↦ (1, omega arith, sym p)
+    | inr (inr p) ↦ (2, omega arith, sym p)
+  ],
+)
 
 -- a number that makes no event scans nothing
 pub scans-nothing : (b : ℕ) (s : Table) (es : List Event) → events_by b es ≡ [] → Scans (λ t o. Unit {0}) IsReadBeside b Rest s es Rest

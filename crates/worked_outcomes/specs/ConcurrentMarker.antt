@@ -1,5 +1,5 @@
 -- A marker concurrently with a mutator: while the marker scans the one object of the start, the mutator makes a second
--- object with a cell, and links it. Both cells are kept, and a load behind the finish still answers its value.
+-- object with a cell, and links it. Both cells are kept, and a load after the finish still answers its value.
 use Rattle.std.specs.Prelude.{List, [], ◌∷◌, Some, None}
 use Rattle.plain_table.specs.declared.scripts.Limits.{Limits}
 use Rattle.plain_table.specs.declared.scripts.Op.TheVariants as op
@@ -62,8 +62,8 @@ concurrent =
     ∷ event 0 (Link (Ref 0 0) (Some 1)) reply.Ok
     ∷ []
 
-abbrev pub behind : List Event
-behind =
+abbrev pub loaded : List Event
+loaded =
     event 0 (Name (external_field 0 0)) (reply.Word (word_of 1))
     ∷ event 0 (Look External (word_of 1) 0x0f 0x0f) (reply.Value 5)
     ∷ []
@@ -72,7 +72,7 @@ abbrev pub parts : List Part
 parts =
     record { beside = before; meet = event meeting (Start Never) reply.Ok ∷ [] }
     ∷ record { beside = concurrent; meet = event meeting Finish reply.Ok ∷ [] }
-    ∷ record { beside = behind; meet = [] }
+    ∷ record { beside = loaded; meet = [] }
     ∷ []
 
 abbrev pub outcome : Outcome

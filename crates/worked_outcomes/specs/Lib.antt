@@ -1,3 +1,4 @@
 pub mod TrustedEntries
 pub mod ConcurrentMarker
+pub mod Compactions
 pub mod WorkedLaws

@@ -5,7 +5,7 @@
 //! concurrently with a mutator (`ConcurrentMarker.antt`).
 #![tactic(auto)]
 
-ghost use Rattle.worked_outcomes.specs.WorkedLaws.{ConcurrentMarkersBelong, TrustedEntriesBelong};
+ghost use Rattle.worked_outcomes.specs.WorkedLaws.{CompactionsBelong, ConcurrentMarkersBelong, TrustedEntriesBelong};
 
 /// A trusted entry is made, can't be read, is published at the next phase, and can be read: this outcome belongs to its
 /// script by the history.
@@ -17,4 +17,10 @@ pub fn trusted_entries_belong()
 /// and links it; the sweep keeps both cells: this outcome belongs to its script by the history.
 pub fn concurrent_markers_belong()
     ensures { ConcurrentMarkersBelong }
+{}
+
+/// A compaction finds no room and is aborted, and the next one moves the cell of the evacuation area: this outcome belongs
+/// to its script by the history.
+pub fn compactions_belong()
+    ensures { CompactionsBelong }
 {}
