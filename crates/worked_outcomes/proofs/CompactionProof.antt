@@ -1,5 +1,5 @@
 -- The outcome of two compactions belongs to its script.
-use Rattle.std.proofs.Common.{◌≡◌, ◌⊎◌, ℕ, zero, suc, ◌<◌, [], ◌∷◌, ◌++◌, List, None, refl, arith, inl, inr, take, drop, slice_index_or, ap, subst}
+use Rattle.std.proofs.Common.{[], ◌∷◌, ◌++◌, List, refl, arith, inl, inr, take, drop}
 use Rattle.plain_table.specs.declared.events.Event.{Event}
 use Rattle.plain_table.specs.Index.{word_of}
 use Rattle.plain_table.specs.Ranges.{IsInRange}
@@ -8,7 +8,7 @@ use Rattle.plain_table.specs.Reachable.{By_variable}
 use Rattle.plain_table.specs.History.{IsLegalHistory, after}
 use Rattle.plain_table.specs.Shapes.{external_field}
 use Rattle.plain_table.specs.Sweeps.{MayScanAtMeet, Is_root, meeting}
-use Rattle.plain_table.specs.Scans.{IsReadAtMeet, Rest, Begins, Passes, Stays, Marks, Takes, Fills, Fails, Aborts, Says, Scans, Ends, Others, Turn, Make}
+use Rattle.plain_table.specs.Scans.{IsReadAtMeet, Rest, Begins, Passes, Stays, Marks, Takes, Fills, Fails, Aborts, Says, Scans, Ends, Turn, Make}
 use Rattle.plain_table.specs.Sound.{IsSound}
 use Rattle.plain_table.specs.Belongs.{Belongs, HasTotals, whole}
 use Rattle.plain_table.proofs.CallsMade.{IsLegalHistory-append}

@@ -3,3 +3,7 @@ pub mod Objects
 pub mod TrustedProof
 pub mod MarkerProof
 pub mod CompactionProof
+pub mod CompactionMisses
+pub mod TrustedMisses
+pub mod ScansMay
+pub mod NotDueProof

@@ -1,16 +1,15 @@
 -- The outcome of a marker concurrently with a mutator belongs to its script.
-use Rattle.std.proofs.Common.{◌≡◌, ◌⊎◌, ℕ, zero, suc, ◌<◌, [], ◌∷◌, ◌++◌, List, None, refl, arith, inl, inr, take, drop, slice_index_or, ap, subst}
+use Rattle.std.proofs.Common.{ℕ, ◌<◌, [], ◌∷◌, ◌++◌, List, refl, arith, inl, inr, take, drop}
 use Rattle.plain_table.specs.declared.events.Event.{Event}
 use Rattle.plain_table.specs.declared.events.Act.TheVariants.{Start, Finish, Scan}
 use Rattle.plain_table.specs.declared.scripts.Policy.TheVariants.{Never}
-use Rattle.plain_table.specs.declared.scripts.Op.TheVariants as op
 use Rattle.plain_table.specs.declared.reports.Reply.TheVariants as reply
 use Rattle.plain_table.specs.Index.{word_of}
 use Rattle.plain_table.specs.Ranges.{IsInRange}
 use Rattle.plain_table.specs.Table.{Table, opening}
 use Rattle.plain_table.specs.Reachable.{By_variable}
 use Rattle.plain_table.specs.History.{IsLegalHistory, after}
-use Rattle.plain_table.specs.Shapes.{MakesCalls, with_ticket, event, external_field}
+use Rattle.plain_table.specs.Shapes.{event, external_field}
 use Rattle.plain_table.specs.Scans.{IsReadBeside, Rest, Begins, Passes, Stays, Marks, Says, Scans, Ends, Others, Turn, Make}
 use Rattle.plain_table.specs.Sound.{IsSound}
 use Rattle.plain_table.specs.Belongs.{Belongs, HasTotals, IsScannedIn, whole, events_by}

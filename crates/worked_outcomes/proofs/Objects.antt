@@ -1,7 +1,7 @@
 -- In a sound table reachable and due objects are made, and the fields of an object are three: so what is to hold of each of
 -- them is held to a few numbers.
 use Rattle.std.proofs.Common.{◌≡◌, ◌⊎◌, ℕ, zero, suc, ◌+◌, ◌*◌, ◌<◌, Bool, true, false, Option, List, [], ◌∷◌, Some, None, refl, arith, inl, inr, subst, sym, take}
-use Rattle.std.specs.Prelude.{IfSome, IsSome, IsSomeAnd, IsTrue, ◌&&◌, ◌||◌, nat_lt}
+use Rattle.std.specs.Prelude.{IsSome, IsSomeAnd, IsTrue, ◌&&◌, ◌||◌, nat_lt}
 use Rattle.std.specs.List.{Contains}
 use Rattle.std.proofs.lemmas.Bool.{and_parts, or_cases}
 use Rattle.std.proofs.lemmas.Bool.Decides.{nat_tests}

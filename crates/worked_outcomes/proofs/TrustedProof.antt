@@ -1,17 +1,16 @@
 -- The outcome of trusted entries belongs to its script.
-use Rattle.std.proofs.Common.{ℕ, zero, suc, ◌<◌, [], ◌∷◌, None, refl, arith, inl, inr, take, drop, slice_index_or}
-use Rattle.plain_table.specs.declared.scripts.Op.TheVariants as op
-use Rattle.plain_table.specs.declared.reports.Reply.TheVariants as reply
+use Rattle.std.proofs.Common.{[], refl, arith, inl, inr, take, drop}
 use Rattle.plain_table.specs.Index.{word_of}
 use Rattle.plain_table.specs.Table.{opening}
 use Rattle.plain_table.specs.History.{IsLegalHistory, after}
-use Rattle.plain_table.specs.Shapes.{MakesCalls, with_ticket}
-use Rattle.plain_table.specs.Belongs.{Belongs, HasTotals, whole, events_by}
-use Rattle.worked_outcomes.specs.TrustedEntries.{limits, script, parts, outcome, made, published}
+use Rattle.plain_table.specs.Belongs.{Belongs, HasTotals, whole}
+use Rattle.worked_outcomes.specs.TrustedEntries.{limits, script, parts, parts_with, one_look, outcome, made, published}
 use Rattle.worked_outcomes.proofs.Phases.{numbers-by, one-mutator}
+use Rattle.worked_outcomes.proofs.Objects.{IsLegalHistory-take}
 
-legal : IsLegalHistory (opening limits) (whole parts)
-legal = (
+-- the same with one look more
+pub legal-more : IsLegalHistory (opening limits) (whole (parts_with one_look))
+legal-more = (
   ((omega arith, omega arith), refl),
   (
     (tt, refl),
@@ -31,7 +30,10 @@ legal = (
                   ((0, omega arith, refl), refl),
                   (
                     (tt, refl),
-                    tt,
+                    (
+                      (tt, refl),
+                      tt,
+                    ),
                   ),
                 ),
               ),
@@ -42,6 +44,9 @@ legal = (
     ),
   ),
 )
+
+legal : IsLegalHistory (opening limits) (whole parts)
+legal = IsLegalHistory-take (opening limits) 10 (whole (parts_with one_look)) legal-more
 
 totals : HasTotals (after (opening limits) (whole parts)) (whole parts) outcome
 totals = record { live = refl; trusted = refl; objects = refl; sum = refl; puts = refl }

@@ -1,6 +1,6 @@
 -- Trusted entries: one mutator makes an entry, which a load can't see. At the next phase it publishes the entry, and then
 -- a load answers its value.
-use Rattle.std.specs.Prelude.{List, [], ◌∷◌}
+use Rattle.std.specs.Prelude.{List, [], ◌∷◌, ◌++◌}
 use Rattle.plain_table.specs.declared.scripts.Limits.{Limits}
 use Rattle.plain_table.specs.declared.scripts.Op.TheVariants as op
 use Rattle.plain_table.specs.declared.scripts.Meet.TheVariants as meet
@@ -54,8 +54,16 @@ published =
     ∷ event 0 (Look Trusted (word_of 1) 0x0f 0x0f) (reply.Value 5)
     ∷ []
 
+-- the history, where more events follow in its second part
+abbrev pub parts_with : List Event → List Part
+parts_with more = record { beside = made; meet = [] } ∷ record { beside = published ++ more; meet = [] } ∷ []
+
 abbrev pub parts : List Part
-parts = record { beside = made; meet = [] } ∷ record { beside = published; meet = [] } ∷ []
+parts = parts_with []
+
+-- one look more, for which the script has no call
+abbrev pub one_look : List Event
+one_look = event 0 (Look Trusted (word_of 1) 0x0f 0x0f) (reply.Value 5) ∷ []
 
 abbrev pub outcome : Outcome
 outcome = record {
