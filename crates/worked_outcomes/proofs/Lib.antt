@@ -1,0 +1,9 @@
+pub mod Phases
+pub mod Objects
+pub mod TrustedProof
+pub mod MarkerProof
+pub mod CompactionProof
+pub mod CompactionMisses
+pub mod TrustedMisses
+pub mod ScansMay
+pub mod NotDueProof
