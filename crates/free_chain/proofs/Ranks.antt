@@ -1,0 +1,1 @@
+-- No freelist word comes twice.
