@@ -7,7 +7,11 @@ fn auto_asks_for_four_segments_and_a_tenth_free(rt: HostRuntime) {
     assert_eq!(rt; decide(Auto, 4, 32, 16), Some(48));
     assert_eq!(rt; decide(Auto, 20, 72, 4), Some(76));
     assert_eq!(rt; decide(Auto, 3, 1, 16), None, "three segments");
-    assert_eq!(rt; decide(Auto, 4, 33, 16), None, "half of what is free has no whole segment");
+    assert_eq!(rt;
+        decide(Auto, 4, 33, 16),
+        None,
+        "half of what is free has no whole segment"
+    );
     assert_eq!(rt; decide(Auto, 21, 76, 4), None, "less than a tenth is free");
 }
 

@@ -1,33 +1,27 @@
 -- The next free index: what it is, and what is known of it.
-use Rattle.std.proofs.Common.{◌≡◌, ◌+◌, ◌-◌, ◌<◌, ◌≤◌, ℕ, Bool, true, false, Option, Some, None, unwrap_or, refl, sym, ap, subst, ◌∙◌, inl, inr, arith}
+use Rattle.std.proofs.Common.{◌≡◌, ◌+◌, ◌-◌, ◌≤◌, ℕ, Bool, Option, Some, None, unwrap_or, refl, ap, ◌∙◌, inl, inr, arith}
 use Rattle.std.proofs.lemmas.Bool.{cases_lt}
 use Rattle.plain_table.specs.Table.{least_from}
 use Rattle.plain_table.specs.Words.{next_free}
+use Rattle.free_chain.specs.Chain.{IsNextFree}
 use Rattle.plain_table.proofs.LeastFree.{least_from-free, least_from-end}
 use Rattle.plain_table.proofs.FreeReads.{least_from-some}
 use Rattle.plain_table.proofs.FreeLists.{least_from-all, least_from-before, least_from-past}
 
--- the least index from `start` on that is not used, or the end
-pub record IsNext (used : ℕ → Bool) (start end i : ℕ) : Type 0 where
-  pub above : start ≤ i
-  pub within : i ≤ end
-  pub passed : (k : ℕ) → start ≤ k → k < i → used k ≡ true
-  pub free : i < end → used i ≡ false
-
-pub next_free-is : (used : ℕ → Bool) (start end i : ℕ) → IsNext used start end i → next_free used start end ≡ i
+pub next_free-is : (used : ℕ → Bool) (start end i : ℕ) → IsNextFree used start end i → next_free used start end ≡ i
 next_free-is used start end i is =
     let same : start + (i - start) ≡ i = omega (arith, is.above) in
     let passed : least_from used start (end - start) ≡ least_from used (start + (i - start)) (end - (start + (i - start))) =
-        least_from-past used start (i - start) end (λ k from to. is.passed k from (omega (arith, to, is.above))) (omega (arith, is.above, is.within)) in
+    least_from-past used start (i - start) end (λ k from to. is.passed k from (omega (arith, to, is.above))) (omega (arith, is.above, is.within)) in
     let past : least_from used start (end - start) ≡ least_from used i (end - i) =
-        passed ∙ ap (λ k. least_from used k (end - k)) same in
+    passed ∙ ap (λ k. least_from used k (end - k)) same in
     ap (λ found. unwrap_or found end) past ∙ elim (cases_lt i end) [
       | inl less ↦ ap (λ found. unwrap_or found end) (least_from-free used i end less (is.free less))
       | inr more ↦ ap (λ found. unwrap_or found end) (least_from-end used i end more) ∙ omega (arith, more, is.within)
     ]
 
 next_free-by : (used : ℕ → Bool) (start end : ℕ) (found : Option ℕ) → start ≤ end → least_from used start (end - start) ≡ found →
-    IsNext used start end (unwrap_or found end)
+    IsNextFree used start end (unwrap_or found end)
 next_free-by used start end None low is = record {
   above = low;
   within = omega arith;
@@ -43,5 +37,5 @@ next_free-by used start end (Some k) low is =
       free = λ less. found.0;
     }
 
-pub IsNext-next_free : (used : ℕ → Bool) (start end : ℕ) → start ≤ end → IsNext used start end (next_free used start end)
-IsNext-next_free used start end low = next_free-by used start end (least_from used start (end - start)) low refl
+pub IsNextFree-next_free : (used : ℕ → Bool) (start end : ℕ) → start ≤ end → IsNextFree used start end (next_free used start end)
+IsNextFree-next_free used start end low = next_free-by used start end (least_from used start (end - start)) low refl

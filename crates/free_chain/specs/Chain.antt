@@ -1,22 +1,22 @@
 -- The list of indexes that a freelist word and its links stand for, and what it is where they show a table: exactly the
 -- free indexes of committed segments, ascending.
-use Rattle.std.specs.Prelude.{◌≡◌, ℕ, zero, suc, ◌*◌, ◌/◌, ◌%◌, ◌^◌, ◌<◌, ◌≤◌, ◌↔◌, Bool, false, List, [], ◌∷◌, length, slice_index_or, Contains, All, IsTrue}
+use Rattle.std.specs.Prelude.{◌≡◌, ℕ, zero, suc, ◌*◌, ◌/◌, ◌%◌, ◌^◌, ◌<◌, ◌≤◌, ◌↔◌, Bool, false, List, [], ◌∷◌, slice_index_or, Contains, All, IsTrue}
 use Rattle.std.specs.List.Sorted.{IsStrictlyIncreasing}
 use Rattle.plain_table.specs.declared.events.Space.{Space}
 use Rattle.plain_table.specs.Table.{Table, limit_of}
 use Rattle.plain_table.specs.Words.{free_word}
 use Rattle.plain_table.specs.Shows.{SpaceShows}
 
--- an index of a list of used ones
+-- the used indexes of a list of tests
 abbrev pub is_used : List Bool → ℕ → Bool
-is_used used i = slice_index_or used i false
+is_used tests i = slice_index_or tests i false
 
 -- the least index from `start` on that is not used, or the end where there is none
-pub record IsNextFree (used : List Bool) (start i : ℕ) : Type 0 where
+pub record IsNextFree (used : ℕ → Bool) (start end i : ℕ) : Type 0 where
   pub above : start ≤ i
-  pub within : i ≤ length used
-  pub passed : (k : ℕ) → start ≤ k → k < i → IsTrue (is_used used k)
-  pub free : i < length used → is_used used i ≡ false
+  pub within : i ≤ end
+  pub passed : (k : ℕ) → start ≤ k → k < i → IsTrue (used k)
+  pub free : i < end → used i ≡ false
 
 -- the index that a free entry links, by its word
 abbrev pub link_of : ℕ → ℕ

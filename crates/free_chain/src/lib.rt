@@ -43,7 +43,7 @@ pub fn len(word: u64) -> u32
 pub fn next_free(used: &[bool], from: u32) -> u32
     requires start { from ≤ length used.now }
     requires few { length used.now ≤ 65536 }
-    ensures least { IsNextFree used.now from result }
+    ensures least { IsNextFree (is_used used.now) from (length used.now) result }
 
     // The same by the words of the model.
     ensures model { result ≡ next_free (is_used used.now) from (length used.now) }
