@@ -1,8 +1,26 @@
 // An image: the whole of a table between two phases.
-ghost use Rattle.std.specs.Prelude.{◌≡◌, ◌*◌, ◌≤◌, IfOk};
+ghost use Rattle.std.specs.Prelude.{◌≡◌, ◌+◌, ◌*◌, ◌<◌, ◌≤◌, IfOk, length};
+ghost use Rattle.plain_table.specs.Words.{free_word, no_access_word};
+ghost use Rattle.entry_word.specs.Fresh.{AreFreshWords, HasFreshEntries, fresh_entry};
+ghost use Rattle.entry_word.specs.Image.{IsValidShape, sizes_of};
 
+use crate::{Entry, encode};
+use free_chain::pack;
 use plain_table::OutOfMemory;
 use std::alloc::Global;
+
+/// The words before those of objects.
+const FIRST_WORDS: usize = 32;
+/// The words of an object.
+const OBJECT_WORDS: usize = 8;
+/// The place of the external freelist word.
+const EXTERNAL_FREELIST: usize = 0;
+/// The place of the trusted freelist word.
+const TRUSTED_FREELIST: usize = 2;
+/// The mutators that a table can have.
+const MUTATORS: usize = 8;
+/// The variables of a mutator.
+const VARIABLES: usize = 16;
 
 /// The sizes of a table. They are in range by `IsValidShape` of `specs/Image.antt`.
 #[derive(Clone, Copy, Debug, PartialEq, Eq)]
@@ -40,7 +58,7 @@ pub struct Image {
 
 impl Image {
     ghost use Rattle.plain_table.specs.Shows.{IsFreshImage, IsLawful};
-    ghost use Rattle.entry_word.specs.Image.{IsValidShape, ShowsOpening, image_of};
+    ghost use Rattle.entry_word.specs.Image.{ShowsOpening, image_of};
 
     /// The image of a table before anything happened: it has no object and no cell, and in each space one committed
     /// segment (`IsFreshImage` of `specs/Shows.antt` of `plain_table`). It refuses only where an allocation fails.
@@ -48,9 +66,69 @@ impl Image {
         requires { IsValidShape shape }
         ensures shape { IfOk result (λ image. image.shape ≡ shape) }
         ensures contents { IfOk result (λ image. IsFreshImage (image_of image)) }
+
+        // So it shows the opening, and is lawful.
         ensures opening { IfOk result (λ image. ShowsOpening (image_of image)) }
         ensures lawful { IfOk result (λ image. IsLawful (image_of image)) }
     {
-        todo!()
+        let words = fresh_words(alloc, shape)?;
+        let Ok(vars) = vec![in alloc; 0; MUTATORS * VARIABLES] else {
+            return Err(OutOfMemory);
+        };
+        let Ok(pending) = vec![in alloc; None; MUTATORS] else {
+            return Err(OutOfMemory);
+        };
+        Ok(Image {
+            shape,
+            words,
+            vars,
+            pending,
+        })
+    }
+}
+
+/// The words of a table before anything happened.
+fn fresh_words(alloc: Global, shape: Shape) -> Result<Vec<u64>, OutOfMemory>
+    requires { IsValidShape shape }
+    ensures { IfOk result (λ words. AreFreshWords words.items (sizes_of shape)) }
+{
+    let external = FIRST_WORDS + OBJECT_WORDS * shape.objects as usize;
+    let external_limit = (shape.seg * shape.ext) as usize;
+    let trusted_limit = (shape.seg * shape.tru) as usize;
+    let trusted = external + external_limit;
+    let Ok(mut words) = vec![in alloc; 0; trusted + trusted_limit] else {
+        return Err(OutOfMemory);
+    };
+    fill_entries(&mut words, external, external_limit, shape.seg);
+    fill_entries(&mut words, trusted, trusted_limit, shape.seg);
+    words[EXTERNAL_FREELIST] = pack(1, shape.seg - 1);
+    words[TRUSTED_FREELIST] = pack(1, shape.seg - 1);
+    Ok(words)
+}
+
+/// Writes the entries of a space of which no index is taken, and the first segment alone is committed.
+fn fill_entries(words: &mut [u64], base: usize, limit: usize, seg: u32)
+    requires seg { (1 ≤ seg) × (seg ≤ limit) }
+    requires few { limit ≤ 65536 }
+    requires room { base + limit ≤ length words.old }
+    ensures { HasFreshEntries words.old words.new base limit seg }
+{
+    for index in 0..limit {
+        words[base + index] = encode(&fresh_entry(index as u32, seg));
+    }
+}
+
+/// The entry at an index of a space of which no index is taken: null at 0, a free entry in the first segment, which
+/// links the next index, and else an entry that may not be used.
+fn fresh_entry(index: u32, seg: u32) -> Entry
+    requires { index < 65536 }
+    ensures { result ≡ fresh_entry index seg }
+{
+    if index == 0 {
+        Entry::Null
+    } else if index < seg {
+        Entry::Free { next: index + 1 }
+    } else {
+        Entry::NoAccess
     }
 }
