@@ -1,5 +1,5 @@
 -- Images as the model sees them: the sizes, words, variables and pending cells of `Shows.antt` of `plain_table`.
-use Rattle.std.specs.Prelude.{◌≡◌, ◌⊎◌, ℕ, ◌*◌, ◌≤◌, map}
+use Rattle.std.specs.Prelude.{◌≡◌, ◌*◌, ◌≤◌, map}
 use Rattle.std.specs.Option.{option_map}
 use Rattle.plain_table.specs.declared.scripts.Limits.{Limits}
 use Rattle.plain_table.specs.Ranges.{IsSegment}

@@ -1,6 +1,6 @@
 // An image: the whole of a table between two phases.
-ghost use Rattle.std.specs.Prelude.{◌≡◌, ◌+◌, ◌*◌, ◌<◌, ◌≤◌, IfOk, length};
-ghost use Rattle.plain_table.specs.Words.{free_word, no_access_word};
+ghost use Rattle.std.specs.Prelude.{◌≡◌, ℕ, ◌+◌, ◌*◌, ◌<◌, ◌≤◌, IfOk, length, slice_index};
+ghost use Rattle.plain_table.specs.Words.{words_in_all};
 ghost use Rattle.entry_word.specs.Fresh.{AreFreshWords, HasFreshEntries, fresh_entry};
 ghost use Rattle.entry_word.specs.Image.{IsValidShape, sizes_of};
 
@@ -8,6 +8,7 @@ use crate::{Entry, encode};
 use free_chain::pack;
 use plain_table::OutOfMemory;
 use std::alloc::Global;
+use table_laws::fresh_images_show_the_opening;
 
 /// The words before those of objects.
 const FIRST_WORDS: usize = 32;
@@ -75,9 +76,10 @@ impl Image {
         let Ok(vars) = vec![in alloc; 0; MUTATORS * VARIABLES] else {
             return Err(OutOfMemory);
         };
-        let Ok(pending) = vec![in alloc; None; MUTATORS] else {
+        let Ok(pending) = Vec::from_array(alloc, [None; MUTATORS]) else {
             return Err(OutOfMemory);
         };
+        fresh_images_show_the_opening();
         Ok(Image {
             shape,
             words,
@@ -92,18 +94,38 @@ fn fresh_words(alloc: Global, shape: Shape) -> Result<Vec<u64>, OutOfMemory>
     requires { IsValidShape shape }
     ensures { IfOk result (λ words. AreFreshWords words.items (sizes_of shape)) }
 {
-    let external = FIRST_WORDS + OBJECT_WORDS * shape.objects as usize;
-    let external_limit = (shape.seg * shape.ext) as usize;
-    let trusted_limit = (shape.seg * shape.tru) as usize;
-    let trusted = external + external_limit;
-    let Ok(mut words) = vec![in alloc; 0; trusted + trusted_limit] else {
+    let Ok(mut words) = vec![in alloc; 0; word_count(shape)] else {
         return Err(OutOfMemory);
     };
-    fill_entries(&mut words, external, external_limit, shape.seg);
-    fill_entries(&mut words, trusted, trusted_limit, shape.seg);
-    words[EXTERNAL_FREELIST] = pack(1, shape.seg - 1);
-    words[TRUSTED_FREELIST] = pack(1, shape.seg - 1);
+    write_fresh(&mut words, shape);
     Ok(words)
+}
+
+/// How many words a table has.
+fn word_count(shape: Shape) -> usize
+    requires { IsValidShape shape }
+    ensures { result ≡ words_in_all (sizes_of shape) }
+{
+    let external = FIRST_WORDS + OBJECT_WORDS * shape.objects as usize;
+    external + (shape.seg * shape.ext) as usize + (shape.seg * shape.tru) as usize
+}
+
+/// Writes the words of a table before anything happened over zeros.
+fn write_fresh(words: &mut [u64], shape: Shape)
+    requires shape { IsValidShape shape }
+    requires whole { length words.old ≡ words_in_all (sizes_of shape) }
+    requires zeros { (i : ℕ) → slice_index words.old i ≡ 0 }
+    ensures { AreFreshWords words.new (sizes_of shape) }
+{
+    let external = FIRST_WORDS + OBJECT_WORDS * shape.objects as usize;
+    let external_limit = (shape.seg * shape.ext) as usize;
+    let trusted = external + external_limit;
+    let trusted_limit = (shape.seg * shape.tru) as usize;
+    fill_entries(words, external, external_limit, shape.seg);
+    fill_entries(words, trusted, trusted_limit, shape.seg);
+    let freelist = pack(1, shape.seg - 1);
+    words[EXTERNAL_FREELIST] = freelist;
+    words[TRUSTED_FREELIST] = freelist;
 }
 
 /// Writes the entries of a space of which no index is taken, and the first segment alone is committed.
