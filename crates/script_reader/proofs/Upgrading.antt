@@ -13,7 +13,7 @@ tag-upgraded a t h = (h.0, inl refl)
 range-upgraded : (a first last : ℕ) → IsRangeOf a first last → IsRangeOf 2 first last
 range-upgraded a first last h = (h.0, inl refl)
 
-op-upgraded : (a : ℕ) (call : Op) → IsValidOp a call → IsValidOp 2 call
+pub op-upgraded : (a : ℕ) (call : Op) → IsValidOp a call → IsValidOp 2 call
 op-upgraded a (op.New v) h = h
 op-upgraded a (op.Drop v) h = h
 op-upgraded a (op.Link v k t) h = h

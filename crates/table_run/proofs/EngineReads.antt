@@ -1,5 +1,5 @@
 -- The engine's calls that change nothing: the name of a field, and a load by a field.
-use Rattle.std.proofs.Common.{◌≡◌, ◌≢◌, ℕ, ◌+◌, ◌*◌, ◌<◌, Bool, List, [], ◌∷◌, Option, Some, None, length, get_or, refl, sym, ◌∙◌, ap, subst, arith, ne_eqb, add-zero, vec_len}
+use Rattle.std.proofs.Common.{◌≡◌, ◌≢◌, ℕ, ◌+◌, ◌*◌, ◌<◌, Bool, List, [], ◌∷◌, Option, Some, None, length, get_or, refl, sym, ◌∙◌, ap, subst, arith, ne_eqb, add-zero, vec_len, ◌≤◌}
 use Rattle.std.specs.Prelude.{if◌then◌else◌, MatchOption}
 use Rattle.std.specs.Option.{option_map, option_map_or}
 use Rattle.std.specs.Global.{Vec}
@@ -13,7 +13,7 @@ use Rattle.plain_table.specs.declared.reports.Reply.TheVariants as reply
 use Rattle.plain_table.specs.Index.{index_of}
 use Rattle.plain_table.specs.Places.{object_of}
 use Rattle.plain_table.specs.Table.{Table}
-use Rattle.plain_table.specs.Rows.{Holds, IsTag, look, seen_under}
+use Rattle.plain_table.specs.Rows.{Holds, look, seen_under}
 use Rattle.plain_table.specs.Shapes.{event, external_field, IsEmptyCall, IsLoad}
 use Rattle.tag_set.specs.Strip.{IsStripped, tag_byte}
 use Rattle.table_run.specs.declared.engine.Engine.{Engine}
@@ -113,4 +113,4 @@ look-shown e s h word first last w answer said stripped some within read answers
 pub le-stripped : (w first last v : ℕ) (answer : Option ℕ) → IsStripped w first last answer → 1 ≤ first →
     option_map_or reply.Value answer reply.Fault ≡ reply.Value v → 1 ≤ tag_byte w
 le-stripped w first last v None stripped low is = absurd (cc)
-le-stripped w first last v (Some x) stripped low is = let above : first ≤ tag_byte w = stripped.0.0 in omega arith
+le-stripped w first last v (Some x) stripped low is = let above : first ≤ tag_byte w = stripped.0.0.0 in omega arith

@@ -1,7 +1,7 @@
 -- Entry words and the cells that they show: a strip of a word answers what its cell does, a decoded word tells whether
 -- a cell stands there, and one word written shows the new cell.
-use Rattle.std.proofs.Common.{◌≡◌, ◌≢◌, ◌↔◌, ℕ, zero, suc, ◌^◌, ◌<◌, ◌≤◌, Bool, true, false, List, Option, Some, None, length, get_or, set, refl, sym, ◌∙◌, ap, subst, arith, inl, inr, eq-eqb, ne_eqb, get_or-set_same, get_or-set_other}
-use Rattle.std.specs.Prelude.{if◌then◌else◌, ◌&&◌, ◌/◌, ◌%◌, nat_le, is_some, IsTrue}
+use Rattle.std.proofs.Common.{◌≡◌, ◌≢◌, ◌↔◌, ℕ, ◌^◌, ◌<◌, ◌≤◌, Bool, true, false, List, Option, Some, None, length, get_or, set, refl, sym, ◌∙◌, ap, subst, arith, inl, inr, get_or-set_same, get_or-set_other, leb-true, le-leb}
+use Rattle.std.specs.Prelude.{if◌then◌else◌, ◌&&◌, nat_le, is_some, IsTrue}
 use Rattle.std.specs.Option.{option_map, option_map_or, SomeIff}
 use Rattle.std.proofs.lemmas.Bool.{cases_Bool, cases_eq, and_from, and_parts}
 use Rattle.plain_table.specs.declared.events.Cell.{Cell}

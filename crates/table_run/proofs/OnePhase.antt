@@ -37,7 +37,7 @@ room_of limits v =
 both : (version : ℕ) (ops : List Op) → All (IsValidOp version) ops → are_built ops ≡ true → All IsValidCall ops
 both version [] valid built k d within = absurd (omega arith)
 both version (op ∷ ops) valid built zero d within =
-    (op-upgraded version op (valid zero op (lit< tt)), (and_parts (is_built_op op) (are_built ops) built).0)
+    (op-upgraded version op (valid zero d within), (and_parts (is_built_op op) (are_built ops) built).0)
 both version (op ∷ ops) valid built (suc k) d within =
     both version ops (λ j e less. valid (suc j) e (omega arith)) (and_parts (is_built_op op) (are_built ops) built).1 k d (omega arith)
 

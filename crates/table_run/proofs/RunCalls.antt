@@ -1,10 +1,9 @@
 -- A run of calls, one call longer.
-use Rattle.std.proofs.Common.{◌≡◌, ℕ, zero, suc, ◌+◌, true, List, [], ◌∷◌, ◌++◌, Option, None, refl, sym, ◌∙◌, ap, subst, arith}
+use Rattle.std.proofs.Common.{◌≡◌, ℕ, ◌+◌, List, [], ◌∷◌, ◌++◌, None, sym, ◌∙◌, ap, subst, arith}
 use Rattle.std.specs.Prelude.{if◌then◌else◌}
 use Rattle.std.specs.List.{All, AllByRecursion, count_by}
 use Rattle.std.proofs.lemmas.List.Sums.{sum_by-append}
 use Rattle.plain_table.specs.declared.scripts.Op.{Op}
-use Rattle.plain_table.specs.declared.scripts.Op.TheVariants as op
 use Rattle.plain_table.specs.declared.events.Event.{Event}
 use Rattle.plain_table.specs.declared.reports.Reply.{Reply}
 use Rattle.plain_table.specs.Table.{Table}
@@ -13,7 +12,7 @@ use Rattle.plain_table.specs.Shapes.{Held, IsShape, OwnTicket, held_after, own_a
 use Rattle.plain_table.specs.Belongs.{is_external_put}
 use Rattle.plain_table.proofs.CallsMade.{after-append, IsLegalHistory-append, held_after-append, own_after-append, MakesCalls-push}
 use Rattle.table_run.specs.declared.engine.Engine.{Engine}
-use Rattle.table_run.specs.Built.{IsValidCall, is_built_op}
+use Rattle.table_run.specs.Built.{IsValidCall}
 use Rattle.table_run.specs.Engine.{Shows, Plays}
 use Rattle.table_run.specs.Run.{HasPlayed}
 

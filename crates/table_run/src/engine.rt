@@ -1,5 +1,5 @@
 // The plain engine: the calls of mutator 0, outside a collection cycle, over a vector of entry words.
-ghost use Rattle.std.specs.Prelude.{◌≡◌, ◌≢◌, ◌+◌, ◌*◌, ◌%◌, ◌^◌, ◌<◌, ◌≤◌, ℕ, Option, None, is_some, if◌then◌else◌, IfOk, IfSome, slice_index_or, slice_index, vec_len};
+ghost use Rattle.std.specs.Prelude.{◌≡◌, ◌≢◌, ◌+◌, ◌*◌, ◌%◌, ◌^◌, ◌<◌, ◌≤◌, ℕ, Option, None, is_some, if◌then◌else◌, IfOk, IfSome, slice_index_or, slice_index, vec_len, true};
 ghost use Rattle.std.specs.Option.{option_map, option_map_or};
 ghost use Rattle.plain_table.specs.declared.events.Cell.{Cell};
 ghost use Rattle.plain_table.specs.Table.{Table, opening};

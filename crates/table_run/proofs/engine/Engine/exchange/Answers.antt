@@ -1,5 +1,5 @@
 -- The word that is written is that of the cell with the new value.
-use Rattle.std.proofs.Common.{◌∙◌, ◌<◌, ◌≤◌, ℕ, ap, refl, set, subst, get_or}
+use Rattle.std.proofs.Common.{◌∙◌, ◌<◌, ℕ, ap, refl, set, subst, sym, true, vec_len}
 use Rattle.plain_table.specs.Index.{index_of}
 use Rattle.entry_word.specs.declared.Entry.TheVariants.{Regular}
 use Rattle.entry_word.specs.Entry.{entry_word}
@@ -12,7 +12,7 @@ pub returns-in-Value : goal.returns-in-Value
 returns-in-Value c = λ s h.
     let inside = c.in-Value.ensures.within c.in-Value.field-0 refl in
     let read = read_at c.args.self.now.entries c.index_of-index.result (index_of c.args.word) c.index.result.now c.index.ensures
-    (subst (λ (n : ℕ). n < _) (λ i. c.index_of-index.ensures.index i) inside.1) c.index_of-index.ensures.index in
+    (subst (λ (n : ℕ). n < vec_len c.args.self.now.entries) (sym c.index_of-index.ensures.index) inside.1) c.index_of-index.ensures.index in
     exchanged c.args.self.now _ c.args.word c.args.first c.args.last c.args.value c.in-Value.field-0 c.look-found.result
     (record {
       low = inside.0;

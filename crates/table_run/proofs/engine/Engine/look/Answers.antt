@@ -1,5 +1,5 @@
 -- The entry is there, and the strip of its word answers as its cell does; past the limit there is none.
-use Rattle.std.proofs.Common.{ℕ, Option, ◌∙◌, ◌≤◌, sym, ap, arith, subst, subst₂}
+use Rattle.std.proofs.Common.{ℕ, ◌∙◌, ◌≤◌, sym, arith, subst, subst₂}
 use Rattle.tag_set.specs.Strip.{IsStripped, tag_byte}
 use Rattle.table_run.proofs.EngineReads.{le-stripped, look-shown, read_at}
 use Rattle.table_run.proofs.engine.Engine.look.Goals as goal
@@ -16,8 +16,11 @@ returns-clause-shown c = λ s h.
 pub returns-clause-within : goal.returns-clause-within
 returns-clause-within c = λ v is.
     let index = c.index_of-index.ensures.index in
-    let read = read_at c.args.self.now.entries c.index_of-index.result _ c.index.result.now c.index.ensures (omega arith) c.index_of-index.ensures.index in
-    (omega (arith, index), omega (arith, index), subst (λ (w : ℕ). 1 ≤ tag_byte w) read
-    (le-stripped c.index.result.now c.args.first c.args.last v c.strip.result
-    (subst₂ (λ (first last : ℕ). IsStripped c.index.result.now first last c.strip.result) c.known_range.ensures.0 c.known_range.ensures.1 c.strip.ensures.value)
-    c.requires.0.0 (sym c.answer.ensures ∙ is)))
+    let read = read_at c.args.self.now.entries c.index_of-index.result _ c.index.result.now c.index.ensures (omega arith) c.index_of-index.ensures.index in (
+      omega (arith, index),
+      omega (arith, index),
+      subst (λ (w : ℕ). 1 ≤ tag_byte w) read
+          (le-stripped c.index.result.now c.args.first c.args.last v c.strip.result
+          (subst₂ (λ (first last : ℕ). IsStripped c.index.result.now first last c.strip.result) c.known_range.ensures.0 c.known_range.ensures.1 c.strip.ensures.value)
+          c.requires.0.0 (sym c.answer.ensures ∙ is)),
+    )
