@@ -1,12 +1,11 @@
 // The text of reports and of refused scripts, appended to one `String` piece by piece; want of memory is the only
 // error. What stands where is defined in `specs/Report.antt`.
-ghost use Rattle.std.specs.Prelude.{◌≡◌, ◌++◌, ◌<◌, false, IfOk, OnOk, string_bytes};
-ghost use Rattle.std.specs.Fmt.{digit_glyph};
+ghost use Rattle.std.specs.Prelude.{◌≡◌, ◌++◌, IfOk, OnOk, string_bytes};
 ghost use Rattle.script_reader.specs.Canonical.{hex};
 ghost use Rattle.report_text.specs.Report.{compaction_text, fault_text_of, meet_text, mutators_text, replies_text, reply_line, reply_text, report_of, start_text, sweep_text};
 
 use plain_table::{Compaction, MeetReport, Outcome, Reply, SweepReport};
-use script_reader::{OutOfMemory, ScriptErr};
+use script_reader::{OutOfMemory, ScriptErr, push_hex};
 use sqlite_items::Items;
 use std::alloc::{AllocError, Global};
 
@@ -102,30 +101,6 @@ fn push_named(text: &mut String, name: &str, digits: u8, number: u64) -> Result<
 {
     text.push_str(name)?;
     push_hex(text, digits, number)
-}
-
-// The last hexadecimal digits of a number, so many of them: those in front, and then the last one.
-#[tactic(auto, unfolding(script_reader::specs::Canonical::hex))]
-fn push_hex(text: &mut String, digits: u8, number: u64) -> Result<(), AllocError>
-    ensures { OnOk result (string_bytes text.new ≡ string_bytes text.old ++ hex digits number) }
-{
-    if digits == 0 {
-        return Ok(());
-    }
-    push_hex(text, digits - 1, number / 16)?;
-    text.push(hex_digit((number % 16) as u8))
-}
-
-fn hex_digit(digit: u8) -> char
-    requires { digit < 16 }
-    ensures value { result ≡ digit_glyph false digit }
-    ensures ascii { result < 128 }
-{
-    char::from(if digit < 10 {
-        b'0' + digit
-    } else {
-        b'a' + (digit - 10)
-    })
 }
 
 fn push_meet(text: &mut String, outcome: &Outcome, meet: &MeetReport) -> Result<(), AllocError>

@@ -1,11 +1,12 @@
 // The canonical text of a script, appended to one `String` piece by piece. What stands where is defined in
 // `specs/Canonical.antt`; each word of an operation stands behind a space.
-ghost use Rattle.std.specs.Prelude.{◌≡◌, ℕ, ◌++◌, ◌<◌, [], ◌∷◌, false, codes, IfOk, OnOk, string_bytes};
+ghost use Rattle.std.specs.Prelude.{◌≡◌, ℕ, ◌++◌, ◌<◌, [], ◌∷◌, codes, IfOk, OnOk, string_bytes};
 ghost use Rattle.std.specs.List.{All, flat_map};
-ghost use Rattle.std.specs.Fmt.{decimal, digit_glyph};
+ghost use Rattle.std.specs.Fmt.{decimal};
 ghost use Rattle.script_reader.specs.Canonical.{canonical_of, header_text, hex, index_word, letter, lists_text, meet_text, op_line, op_words, ops_text, phase_text, policy_word, range_word, spaced, tag_word, target_word, value_word};
 ghost use Rattle.script_reader.specs.Valid.{IsTarget, IsValidOp, IsValidPhase, IsValidScript, IsVariable};
 
+use crate::digits::push_hex;
 use crate::refusals::OutOfMemory;
 use plain_table::{Limits, Meet, Op, Phase, Policy, Script};
 use sqlite_items::Items;
@@ -334,30 +335,6 @@ fn push_digits(text: &mut String, digits: u8, number: u64) -> Result<(), AllocEr
 {
     text.push_str(" ")?;
     push_hex(text, digits, number)
-}
-
-// The last hexadecimal digits of a number, so many of them: those in front, and then the last one.
-#[tactic(auto, unfolding(crate::specs::Canonical::hex))]
-fn push_hex(text: &mut String, digits: u8, number: u64) -> Result<(), AllocError>
-    ensures { OnOk result (string_bytes text.new ≡ string_bytes text.old ++ hex digits number) }
-{
-    if digits == 0 {
-        return Ok(());
-    }
-    push_hex(text, digits - 1, number / 16)?;
-    text.push(hex_digit((number % 16) as u8))
-}
-
-fn hex_digit(digit: u8) -> char
-    requires { digit < 16 }
-    ensures value { result ≡ digit_glyph false digit }
-    ensures ascii { result < 128 }
-{
-    char::from(if digit < 10 {
-        b'0' + digit
-    } else {
-        b'a' + (digit - 10)
-    })
 }
 
 fn push_meet(text: &mut String, meet: Meet) -> Result<(), AllocError>

@@ -1,5 +1,5 @@
 // Texts, what the grammar makes of them, and their canonical texts.
-use crate::{ScriptErr, parse, print, printed_is_read_back, upgrade, upgraded_is_valid};
+use crate::{ScriptErr, parse, print, printed_is_read_back, push_hex, upgrade, upgraded_is_valid};
 use std::alloc::{AllocError, Global};
 use std::test::Fail;
 
@@ -200,6 +200,21 @@ fn an_upgraded_script_has_version_2(rt: HostRuntime) -> Result<(), Fail> {
     let script = upgrade(parse(rt.alloc(), text.as_bytes())?);
     let printed = print(rt.alloc(), &script)?;
     assert_eq!(rt; printed.as_str(), want.as_str());
+    Ok(())
+}
+
+#[test]
+fn hexadecimal_digits_are_the_last_ones(rt: HostRuntime) -> Result<(), Fail> {
+    for (digits, number, want) in [
+        (2, 0xf0, "f0"),
+        (8, 0x0001_0000, "00010000"),
+        (2, 0x1ab, "ab"),
+        (0, 1, ""),
+    ] {
+        let mut text = String::new(rt.alloc());
+        push_hex(&mut text, digits, number)?;
+        assert_eq!(rt; text.as_str(), want);
+    }
     Ok(())
 }
 

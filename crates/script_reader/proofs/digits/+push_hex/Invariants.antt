@@ -1,4 +1,4 @@
-use Rattle.report_text.proofs.report.+push_hex.Given as goal
+use Rattle.script_reader.proofs.digits.+push_hex.Given as goal
 
 abbrev pub decreases-push_hex : goal.decreases-push_hex
 decreases-push_hex l = l.digits
