@@ -11,7 +11,7 @@ use std::thread::join;
 const ROOM: usize = 64;
 
 /// So many runs are made, at most, until a call meets a write that is under way.
-const MOST_RUNS: u32 = 10_000;
+const MOST_RUNS: u32 = 1_000;
 
 #[test]
 fn a_thousand_calls_of_each(rt: HostRuntime) -> Result<(), Fail> {

@@ -7,7 +7,7 @@ use Rattle.plain_table.specs.declared.scripts.Limits.{Limits}
 use Rattle.plain_table.specs.Ranges.{IsInRange}
 use Rattle.plain_table.specs.Table.{Sizes, opening}
 use Rattle.plain_table.specs.Shows.{Image, PendingCell, IsFreshImage, IsLawful}
-use Rattle.table_laws.specs.Laws.{FreshImagesShowTheOpening}
+use Rattle.plain_table.specs.Openings.{FreshImagesShowTheOpening}
 use Rattle.entry_word.specs.declared.image.Shape.{Shape}
 use Rattle.entry_word.specs.Fresh.{AreFreshWords}
 use Rattle.entry_word.specs.Image.{IsValidShape, ShowsOpening, sizes_of}

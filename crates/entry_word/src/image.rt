@@ -8,7 +8,6 @@ use crate::{Entry, encode};
 use free_chain::pack;
 use plain_table::OutOfMemory;
 use std::alloc::Global;
-use table_laws::fresh_images_show_the_opening;
 
 /// The words before those of objects.
 const FIRST_WORDS: usize = 32;
@@ -79,7 +78,6 @@ impl Image {
         let Ok(pending) = Vec::from_array(alloc, [None; MUTATORS]) else {
             return Err(OutOfMemory);
         };
-        fresh_images_show_the_opening();
         Ok(Image {
             shape,
             words,

@@ -13,3 +13,5 @@ pub mod SpacesShown
 pub mod SegmentEnds
 pub mod ObjectFields
 pub mod Rewrites
+pub mod OpeningSound
+pub mod OpeningShows

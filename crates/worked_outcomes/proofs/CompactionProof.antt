@@ -14,17 +14,10 @@ use Rattle.plain_table.specs.Belongs.{Belongs, HasTotals, whole}
 use Rattle.plain_table.proofs.CallsMade.{IsLegalHistory-append}
 use Rattle.worked_outcomes.specs.Compactions.{limits, script, parts, outcome_moving, filled, started, given_up, evacuated, finish, loaded}
 use Rattle.worked_outcomes.proofs.Phases.{numbers-by, own-by, one-mutator, fields_of, fields-are}
-use Rattle.worked_outcomes.proofs.Objects.{IsSound-history, finish-by, complete-by, scan-by}
+use Rattle.worked_outcomes.proofs.Objects.{IsInRange-small, IsSound-history, finish-by, complete-by, scan-by}
 
-in_range : IsInRange limits
-in_range = record {
-  seg = inl refl;
-  ext = (omega arith, omega arith);
-  tru = (omega arith, omega arith);
-  objects = (omega arith, omega arith);
-  mutators = (omega arith, omega arith);
-  markers = omega arith;
-}
+pub in_range : IsInRange limits
+in_range = IsInRange-small 2 1 0 (omega arith) (omega arith) (omega arith) (omega arith) (omega arith)
 
 -- what happens up to the first finish
 abbrev first : List Event

@@ -3,7 +3,9 @@ pub mod Objects
 pub mod TrustedProof
 pub mod MarkerProof
 pub mod CompactionProof
-pub mod CompactionMisses
+pub mod PauseKeeps
+pub mod ForcedCalls
+pub mod AnyHistory
 pub mod TrustedMisses
 pub mod ScansMay
 pub mod NotDueProof

@@ -16,17 +16,10 @@ use Rattle.plain_table.specs.Belongs.{Belongs, HasTotals, IsScannedIn, whole, ev
 use Rattle.plain_table.proofs.CallsMade.{IsLegalHistory-append}
 use Rattle.worked_outcomes.specs.ConcurrentMarker.{limits, script, parts, outcome, before, concurrent, loaded}
 use Rattle.worked_outcomes.proofs.Phases.{numbers-by, one-mutator, one-marker, fields_of, fields-are, scans-nothing}
-use Rattle.worked_outcomes.proofs.Objects.{IsSound-history, IsLegalHistory-take, reachable-made, root-reachable, finish-by, complete-by, scan-by}
+use Rattle.worked_outcomes.proofs.Objects.{IsInRange-small, IsSound-history, IsLegalHistory-take, reachable-made, root-reachable, finish-by, complete-by, scan-by}
 
 in_range : IsInRange limits
-in_range = record {
-  seg = inl refl;
-  ext = (omega arith, omega arith);
-  tru = (omega arith, omega arith);
-  objects = (omega arith, omega arith);
-  mutators = (omega arith, omega arith);
-  markers = omega arith;
-}
+in_range = IsInRange-small 1 2 1 (omega arith) (omega arith) (omega arith) (omega arith) (omega arith)
 
 -- what happens up to the finish
 abbrev so_far : List Event

@@ -26,7 +26,7 @@ use Rattle.worked_outcomes.specs.NotDue.{limits, script, parts_scanning, due_sca
 use Rattle.worked_outcomes.specs.WorkedLaws.{PausesScanWhatIsDue}
 use Rattle.worked_outcomes.proofs.ScansMay.{scanned-may}
 use Rattle.worked_outcomes.proofs.Phases.{numbers-by, own-by, one-mutator, fields_of, fields-are}
-use Rattle.worked_outcomes.proofs.Objects.{IsSound-history, IsLegalHistory-take, finish-by, scan-by}
+use Rattle.worked_outcomes.proofs.Objects.{IsInRange-small, IsSound-history, IsLegalHistory-take, finish-by, scan-by}
 
 -- the table at the pause
 abbrev pause : Table
@@ -61,14 +61,7 @@ reachable-zero s e1 e2 e3 _ (By_reference o k q r e) =
     absurd (no-reference o k q (subst (λ (refs : ℕ → ℕ → Option ℕ). refs o k ≡ Some q) e3 e))
 
 in_range : IsInRange limits
-in_range = record {
-  seg = inl refl;
-  ext = (omega arith, omega arith);
-  tru = (omega arith, omega arith);
-  objects = (omega arith, omega arith);
-  mutators = (omega arith, omega arith);
-  markers = omega arith;
-}
+in_range = IsInRange-small 1 2 0 (omega arith) (omega arith) (omega arith) (omega arith) (omega arith)
 
 -- what happens up to the finish, with both scans
 abbrev so_far : List Event

@@ -1,6 +1,6 @@
 -- In a sound table reachable and due objects are made, and the fields of an object are three: so what is to hold of each of
 -- them is held to a few numbers.
-use Rattle.std.proofs.Common.{◌≡◌, ◌⊎◌, ℕ, zero, suc, ◌+◌, ◌*◌, ◌<◌, Bool, true, false, Option, List, [], ◌∷◌, Some, None, refl, arith, inl, inr, subst, sym, take}
+use Rattle.std.proofs.Common.{◌≡◌, ◌⊎◌, ℕ, zero, suc, ◌+◌, ◌*◌, ◌<◌, ◌≤◌, Bool, true, false, Option, List, [], ◌∷◌, Some, None, refl, arith, inl, inr, subst, sym, take}
 use Rattle.std.specs.Prelude.{IsSome, IsSomeAnd, IsTrue, ◌&&◌, ◌||◌, nat_lt}
 use Rattle.std.specs.List.{Contains}
 use Rattle.std.proofs.lemmas.Bool.{and_parts, or_cases}
@@ -20,11 +20,23 @@ use Rattle.plain_table.specs.Sweeps.{IsDue, Was_root, Was_linked, Is_root, Is_re
 use Rattle.plain_table.specs.Sound.{IsSound, CycleSound}
 use Rattle.plain_table.proofs.Options.{IfSome-is}
 use Rattle.table_laws.proofs.Reach.{Reaches-fold}
-use Rattle.table_laws.proofs.OpeningSound.{IsSound-opening}
+use Rattle.plain_table.proofs.OpeningSound.{IsSound-opening}
 use Rattle.table_laws.proofs.Soundness.{events-sound}
 use Rattle.table_laws.proofs.SoundHistories.{histories-sound}
 use Rattle.table_laws.proofs.FinishLaws.{CanFinish-scanned}
 use Rattle.worked_outcomes.proofs.Phases.{field-of}
+
+-- limits of one mutator and a few objects
+pub IsInRange-small : (ext objects markers : ℕ) → 1 ≤ ext → ext ≤ 2 → 1 ≤ objects → objects ≤ 2 → markers ≤ 1 →
+    IsInRange (record { seg = 4; ext = ext; tru = 1; objects = objects; mutators = 1; markers = markers })
+IsInRange-small ext objects markers e1 e2 o1 o2 m = record {
+  seg = inl refl;
+  ext = (e1, omega arith);
+  tru = (omega arith, omega arith);
+  objects = (o1, omega arith);
+  mutators = (omega arith, omega arith);
+  markers = omega arith;
+}
 
 pub IsSound-history : (limits : Limits) (es : List Event) → IsInRange limits → IsLegalHistory (opening limits) es → IsSound (after (opening limits) es)
 IsSound-history = histories-sound events-sound IsSound-opening

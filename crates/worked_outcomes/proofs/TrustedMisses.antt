@@ -1,5 +1,5 @@
--- The calls of the second phase of trusted entries make four events at most, so none belongs by a history with a fifth.
-use Rattle.std.proofs.Common.{◌≡◌, ℕ, ◌+◌, ◌≤◌, [], ◌∷◌, ◌++◌, List, Option, Some, None, length, length-append, ap, arith, inl, inr, false, ◌∙◌, slice_index_or}
+-- The calls of the second phase of trusted entries make four events at most, so no outcome belongs by a history with a fifth.
+use Rattle.std.proofs.Common.{◌≡◌, ℕ, ◌+◌, ◌≤◌, [], ◌∷◌, ◌++◌, List, Option, Some, None, length, length-append, refl, ap, subst, arith, inl, inr, false, ◌∙◌, slice_index_or}
 use Rattle.std.specs.Prelude.{MatchOption}
 use Rattle.plain_table.specs.declared.scripts.Op.TheVariants as op
 use Rattle.plain_table.specs.declared.events.Event.{Event}
@@ -9,9 +9,10 @@ use Rattle.plain_table.specs.Cycle.{Cycle}
 use Rattle.plain_table.specs.Table.{Table, opening}
 use Rattle.plain_table.specs.History.{after}
 use Rattle.plain_table.specs.Shapes.{Held, OwnTicket, IsEmptyCall, IsShape, MakesCalls, held_after, own_after, with_ticket}
-use Rattle.plain_table.specs.Belongs.{PhasesBelong}
-use Rattle.worked_outcomes.specs.TrustedEntries.{limits, script, made, published, parts_with, one_look}
+use Rattle.plain_table.specs.Belongs.{PhasesBelong, events_by}
+use Rattle.worked_outcomes.specs.TrustedEntries.{limits, script, made, published, parts_with}
 use Rattle.worked_outcomes.specs.WorkedLaws.{EventsNeedTheirCall}
+use Rattle.worked_outcomes.proofs.ForcedCalls.{events-mine}
 use Rattle.worked_outcomes.proofs.TrustedProof.{legal-more}
 
 module _ (b : ℕ) (cycle : Option Cycle) (held : Held) (said : Reply) (es : List Event) where
@@ -45,12 +46,19 @@ short-calls b cycle held own var first last (said ∷ next ∷ more ∷ replies)
 abbrev at_second : Table
 at_second = after (opening limits) made
 
-no-phases : (reports : List PhaseReport) → PhasesBelong limits false [] (opening limits) script.phases (parts_with one_look) reports → ⊥
-no-phases [] h = h
-no-phases (first ∷ []) h = h.1
-no-phases (first ∷ second ∷ reports) h =
-    let few = short-calls 0 at_second.cycle (at_second.vars 0) (with_ticket (at_second.ticket 0)) 0 0x0f 0x0f (slice_index_or second.replies 0 [])
-    (published ++ one_look) (h.1.0.calls 0 (omega arith)) in omega (arith, few)
+few-phases : (more : List Event) (reports : List PhaseReport) →
+    PhasesBelong limits false [] (opening limits) script.phases (parts_with more) reports → length (published ++ more) ≤ 4
+few-phases more [] h = absurd h
+few-phases more (first ∷ []) h = absurd h.1
+few-phases more (first ∷ second ∷ reports) h =
+    let mine = events-mine limits (published ++ more) refl refl h.1.0.numbers in
+    subst (λ (es : List Event). length es ≤ 4) mine
+    (short-calls 0 at_second.cycle (at_second.vars 0) (with_ticket (at_second.ticket 0)) 0 0x0f 0x0f (slice_index_or second.replies 0 [])
+    (events_by 0 (published ++ more)) (h.1.0.calls 0 (omega arith)))
+
+none-more : (more : List Event) → length (published ++ more) ≤ 4 → more ≡ []
+none-more [] few = refl
+none-more (e ∷ es) few = absurd (omega arith)
 
 pub calls-needed : EventsNeedTheirCall
-calls-needed = (legal-more, λ outcome belongs. no-phases outcome.phases belongs.phases)
+calls-needed = (legal-more, λ more outcome belongs. none-more more (few-phases more outcome.phases belongs.phases))

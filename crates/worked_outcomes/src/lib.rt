@@ -33,14 +33,14 @@ pub fn compactions_belong()
     ensures { CompactionsBelong }
 {}
 
-/// A near miss: with any other number of moves in the report of the second sweep, the outcome of `compactions_belong` does
-/// not belong by that history.
+/// A near miss: with any other number of moves in the report of the second sweep, a move left out among them, the outcome of
+/// `compactions_belong` belongs to its script by no history.
 pub fn other_moves_do_not_belong()
     ensures { OtherMovesDoNotBelong }
 {}
 
-/// A near miss: by the history of `trusted_entries_belong` with one look more, for which the script has no call, no outcome
-/// belongs, though that history is legal.
+/// A near miss: where the history of `trusted_entries_belong` goes on with any event for which the script has no call, no
+/// outcome belongs by it, though with one look more it is legal.
 pub fn events_need_their_call()
     ensures { EventsNeedTheirCall }
 {}

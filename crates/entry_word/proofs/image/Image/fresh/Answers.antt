@@ -2,6 +2,7 @@
 use Rattle.std.proofs.Common.{◌≡◌, List, Option, None, map, replicate, refl, ap, ◌∙◌}
 use Rattle.std.specs.Option.{option_map}
 use Rattle.plain_table.specs.Shows.{IsFreshImage}
+use Rattle.plain_table.proofs.OpeningShows.{IsLawful-fresh as shows_opening}
 use Rattle.entry_word.specs.declared.image.Image.{Image}
 use Rattle.entry_word.specs.declared.image.Pending.{Pending}
 use Rattle.entry_word.specs.Image.{image_of, pending_of, sizes_of}
@@ -26,11 +27,11 @@ returns-clause-opening c =
     let image : Image = record { shape = c.args.shape; words = c.in_ok-words.words; vars = c.in-Ok.vars; pending = c.in-Ok-from_array.pending } in
     ShowsOpening-fresh c.args.shape (image_of image) c.requires refl
     (fresh image c.in_ok-words.ensures (c.in-Ok.ensures.items_if_clones_equal (λ y is. is)) c.in-Ok-from_array.ensures.items)
-    c.fresh_images_show_the_opening.ensures
+    shows_opening
 
 pub returns-clause-lawful : goal.returns-clause-lawful
 returns-clause-lawful c =
     let image : Image = record { shape = c.args.shape; words = c.in_ok-words.words; vars = c.in-Ok.vars; pending = c.in-Ok-from_array.pending } in
     IsLawful-fresh c.args.shape (image_of image) c.requires refl
     (fresh image c.in_ok-words.ensures (c.in-Ok.ensures.items_if_clones_equal (λ y is. is)) c.in-Ok-from_array.ensures.items)
-    c.fresh_images_show_the_opening.ensures
+    shows_opening

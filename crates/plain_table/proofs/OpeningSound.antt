@@ -5,7 +5,7 @@ use Rattle.plain_table.specs.declared.events.Space.{Space}
 use Rattle.plain_table.specs.declared.events.Space.TheVariants.{External, Trusted}
 use Rattle.plain_table.specs.Ranges.{IsSegment, IsInRange}
 use Rattle.plain_table.specs.Table.{opening, limit_of}
-use Rattle.table_laws.specs.Laws.{OpeningsAreSound}
+use Rattle.plain_table.specs.Openings.{OpeningsAreSound}
 
 -- a segment has at least four entries
 pub le-segment : (seg : ℕ) → IsSegment seg → 4 ≤ seg

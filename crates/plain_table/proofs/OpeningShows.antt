@@ -13,9 +13,9 @@ use Rattle.plain_table.specs.Area.{count_below}
 use Rattle.plain_table.specs.Table.{Sizes, opening, limit_of}
 use Rattle.plain_table.specs.Words.{header_place, field_place, entry_place, words_in_all, freelist_word, free_word, evacuation_word, next_free}
 use Rattle.plain_table.specs.Shows.{entry_at, SpaceShownBy, Image, ImageShows, IsFreshSpace, IsFreshImage}
-use Rattle.table_laws.specs.Laws.{FreshImagesShowTheOpening}
+use Rattle.plain_table.specs.Openings.{FreshImagesShowTheOpening}
 use Rattle.plain_table.proofs.LeastFree.{least_from-free, least_from-end}
-use Rattle.table_laws.proofs.OpeningSound.{le-segment, le-limit_of, IsSound-opening}
+use Rattle.plain_table.proofs.OpeningSound.{le-segment, le-limit_of, IsSound-opening}
 
 -- where index 0 alone is used, the next free index from 1 on is the very next one, or the end
 pub next_free-opening : (i end : ℕ) → 1 ≤ i → i ≤ end → next_free (λ j. j == 0) i end ≡ i
