@@ -14,3 +14,4 @@ pub mod MakesCycles
 pub mod SweptParts
 pub mod Finishes
 pub mod MakesMeets
+pub mod UsedCounts

@@ -8,13 +8,13 @@ ghost use Rattle.plain_program.specs.Kept.{begun, shown};
 ghost use Rattle.plain_program.specs.Steps.{Steps};
 ghost use Rattle.plain_table.specs.Table.{limit_of};
 
-use crate::area::area_start;
 use crate::cycle::{CycleState, Origin};
 use crate::maps::{copy, copy_pairs};
 use crate::numbers::MEETING;
 use crate::reaches::reached;
 use crate::state::State;
 use crate::{OutOfMemory, Policy, Reply, Space};
+use evac_area::decide;
 use std::alloc::Global;
 use std::collections::BTreeSet;
 
@@ -75,7 +75,7 @@ impl State {
         // Where no index is used, there is one segment, and it has no area.
         let greatest = self.greatest_used()?;
         let seg = self.segment();
-        area_start(policy, 1 + greatest / seg, self.used_count(), seg)
+        decide(policy, 1 + greatest / seg, self.used_count(), seg)
     }
 
     /// The entries of a segment. The external ones have at most 65,536 in all.
