@@ -118,6 +118,13 @@ impl<W: Write> WriteSink<W> {
             faults: FaultCount::new(),
         }
     }
+
+    /// The writer, with what was written to it.
+    pub fn into_inner(self) -> W
+        ensures { W.contents result ≡ ⟦<WriteSink<W> as Sink>⟧.written self }
+    {
+        self.inner
+    }
 }
 
 impl<W: Write> Sink for WriteSink<W> {
