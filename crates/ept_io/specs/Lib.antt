@@ -1,3 +1,5 @@
 pub mod Faults
 pub mod Bytes
+pub mod Calls
 pub mod Memory
+pub mod Streams

@@ -1,15 +1,20 @@
-// The edge to the outside: a source over any reader of std, and a sink over any writer. What the
-// outside gives and takes is in no contract; what fails is counted.
-ghost use Rattle.std.specs.Prelude.{◌≡◌, ℕ, ◌<◌, ◌≤◌, None, length, IfOk, is_ok, if◌then◌else◌};
-ghost use Rattle.ept_io.specs.Faults.{raised};
+// The edge to the outside: a source over any reader of std, and a sink over any writer. They tell
+// the bytes that the reader and the writer tell, which the process's own streams don't.
+ghost use Rattle.std.specs.Prelude.{◌≡◌, ◌≢◌, ◌<◌, ◌≤◌, length, take, IfErr, IfOk, OnErr};
+ghost use Rattle.std.specs.IoError.{error_kind};
+ghost use Rattle.std.specs.Io.KnownBytes.{IsAtEnd, ReadConsumes, WriteAppends};
+ghost use Rattle.std.specs.Io.{ReadsAtMost, WritesAtMost};
+ghost use Rattle.ept_io.specs.Streams.{HasFailed, HasGiven, HasTaken};
 
 use crate::faults::{Failed, FaultCount};
 use crate::traits::{Sink, Source};
-use std::io::{Read, Write};
+use std::io;
+use std::io::{ErrorKind, Read, Write};
 use std::marker::Model;
 
-/// A source over a reader. Contracts see it as its count of faults: a u64 that rises at each
-/// error, up to 2^64 - 1. It tells nothing of its bytes.
+/// A source over a reader. Contracts see it as a `Stream` (specs/Streams.antt): the bytes that the
+/// reader has left, where the reader tells them, and the count of faults, a u64 that rises at each
+/// error, up to 2^64 - 1.
 #[derive(Drop)]
 pub struct ReadSource<R: Read> {
     inner: R,
@@ -17,17 +22,21 @@ pub struct ReadSource<R: Read> {
 }
 
 impl<R: Read> Model for ReadSource<R> {
-    ghost use Rattle.std.specs.Prelude.{ℕ};
+    ghost use Rattle.ept_io.specs.Streams.{Stream};
 
-    ghost Value = { ℕ };
+    ghost Value = { Stream };
 
-    ghost view = { λ s. s.faults.count };
+    ghost view = { λ s. record {
+      bytes = R.remaining s.inner;
+      faults = s.faults.count;
+    } };
 }
 
 impl<R: Read> ReadSource<R> {
     /// A source over `inner` with no fault so far. Takes no memory.
     pub fn new(inner: R) -> ReadSource<R>
-        ensures { ⟦<ReadSource<R> as Source>⟧.faults result ≡ 0 }
+        ensures left { ⟦<ReadSource<R> as Source>⟧.left result ≡ R.remaining inner }
+        ensures faults { ⟦<ReadSource<R> as Source>⟧.faults result ≡ 0 }
     {
         ReadSource {
             inner,
@@ -37,27 +46,50 @@ impl<R: Read> ReadSource<R> {
 }
 
 impl<R: Read> Source for ReadSource<R> {
-    ghost left = { λ _. None };
+    ghost left = { λ s. s.bytes };
 
-    ghost faults = { λ s. s };
+    ghost faults = { λ s. s.faults };
 
     ghost is_steady = { λ _. ⊥ };
 
-    /// One read of the reader. An error is a fault.
+    ghost gives = { HasGiven };
+
+    ghost fails = { HasFailed };
+
+    /// One read of the reader, tried again where a signal interrupted it. Any other error is a
+    /// fault.
     fn read(&mut self, buf: &mut [u8]) -> Result<usize, Failed>
         requires { 0 < length buf.old }
         ensures count { IfOk result (λ n. n ≤ length buf.new) }
-        ensures faults { self.new ≡ (if is_ok result then self.old else raised self.old) }
+        ensures gave { IfOk result (λ n. HasGiven self.old (take n buf.new) self.new) }
+        ensures end { IfOk result (λ n. n ≡ 0 → IsAtEnd self.new.bytes) }
+        ensures failed { OnErr result (HasFailed self.old self.new) }
     {
-        match self.inner.read(buf) {
+        match read_again(&mut self.inner, buf) {
             Ok(n) => Ok(n),
             Err(_) => Err(self.faults.rise()),
         }
     }
 }
 
-/// A sink over a writer. Contracts see it as its count of faults: a u64 that rises at each error
-/// and at each write that took nothing, up to 2^64 - 1. It tells nothing of its bytes.
+// One read, tried again where a signal interrupted it. It gives up after 2^64 - 1 tries.
+fn read_again<R: Read>(reader: &mut R, buf: &mut [u8]) -> io::Result<usize>
+    ensures bound { ReadsAtMost result buf.new }
+    ensures bytes { ReadConsumes (R.remaining reader.old) (R.remaining reader.new) result buf.new }
+    ensures again { IfErr result (λ e. error_kind e ≢ ErrorKind.Interrupted) }
+{
+    for _ in 0..u64::MAX {
+        match reader.read(buf) {
+            Err(e) if e.kind() == ErrorKind::Interrupted => {}
+            answer => return answer,
+        }
+    }
+    Err(io::Error::from(ErrorKind::TimedOut))
+}
+
+/// A sink over a writer. Contracts see it as a `Stream` (specs/Streams.antt): the bytes that the
+/// writer holds, where the writer tells them, and the count of faults, a u64 that rises at each
+/// error and at each write that took nothing, up to 2^64 - 1.
 #[derive(Drop)]
 pub struct WriteSink<W: Write> {
     inner: W,
@@ -65,42 +97,74 @@ pub struct WriteSink<W: Write> {
 }
 
 impl<W: Write> Model for WriteSink<W> {
-    ghost use Rattle.std.specs.Prelude.{ℕ};
+    ghost use Rattle.ept_io.specs.Streams.{Stream};
 
-    ghost Value = { ℕ };
+    ghost Value = { Stream };
 
-    ghost view = { λ s. s.faults.count };
+    ghost view = { λ s. record {
+      bytes = W.contents s.inner;
+      faults = s.faults.count;
+    } };
 }
 
 impl<W: Write> WriteSink<W> {
     /// A sink over `inner` with no fault so far. Takes no memory.
     pub fn new(inner: W) -> WriteSink<W>
-        ensures { ⟦<WriteSink<W> as Sink>⟧.faults result ≡ 0 }
+        ensures written { ⟦<WriteSink<W> as Sink>⟧.written result ≡ W.contents inner }
+        ensures faults { ⟦<WriteSink<W> as Sink>⟧.faults result ≡ 0 }
     {
         WriteSink {
             inner,
             faults: FaultCount::new(),
         }
     }
+
+    /// The writer, with what was written to it.
+    pub fn into_inner(self) -> W
+        ensures { W.contents result ≡ ⟦<WriteSink<W> as Sink>⟧.written self }
+    {
+        self.inner
+    }
 }
 
 impl<W: Write> Sink for WriteSink<W> {
-    ghost written = { λ _. None };
+    ghost written = { λ s. s.bytes };
 
-    ghost faults = { λ s. s };
+    ghost faults = { λ s. s.faults };
 
     ghost has_room = { λ _ _. ⊥ };
 
-    /// One write to the writer. An error, and a write that took nothing, is a fault.
+    ghost takes = { HasTaken };
+
+    ghost fails = { HasFailed };
+
+    /// One write to the writer, tried again where a signal interrupted it. Any other error, and a
+    /// write that took nothing, is a fault.
     fn write(&mut self, buf: &[u8]) -> Result<usize, Failed>
         requires { 0 < length buf.now }
         ensures some { IfOk result (λ n. 1 ≤ n) }
         ensures count { IfOk result (λ n. n ≤ length buf.now) }
-        ensures faults { self.new ≡ (if is_ok result then self.old else raised self.old) }
+        ensures took { IfOk result (λ n. HasTaken self.old (take n buf.now) self.new) }
+        ensures failed { OnErr result (HasFailed self.old self.new) }
     {
-        match self.inner.write(buf) {
+        match write_again(&mut self.inner, buf) {
             Ok(n) if n > 0 => Ok(n),
             _ => Err(self.faults.rise()),
         }
     }
+}
+
+// One write, tried again where a signal interrupted it. It gives up after 2^64 - 1 tries.
+fn write_again<W: Write>(writer: &mut W, buf: &[u8]) -> io::Result<usize>
+    ensures bound { WritesAtMost result buf.now }
+    ensures bytes { WriteAppends (W.contents writer.old) (W.contents writer.new) result buf.now }
+    ensures again { IfErr result (λ e. error_kind e ≢ ErrorKind.Interrupted) }
+{
+    for _ in 0..u64::MAX {
+        match writer.write(buf) {
+            Err(e) if e.kind() == ErrorKind::Interrupted => {}
+            answer => return answer,
+        }
+    }
+    Err(io::Error::from(ErrorKind::TimedOut))
 }

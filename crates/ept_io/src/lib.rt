@@ -3,13 +3,16 @@
 //! A `Source` gives its bytes in order and a `Sink` takes them in order; each fails only where its
 //! count of faults rose, and a failed call moves no byte (`traits.rt`). `memory.rt` has both over
 //! memory, with short pieces and planned faults, exact to the byte. `adapters.rt` has both over
-//! std's readers and writers, of whose bytes nothing is told. `transfer.rt` has `read_script` and
-//! `write_all`. The words of the contracts stand in `specs/`: `Faults`, `Bytes` and `Memory`.
+//! std's readers and writers, exact where these tell their bytes. `transfer.rt` has `read_script`
+//! and `write_all`. The words of the contracts stand in `specs/`: `Faults`, `Bytes`, `Calls`,
+//! `Memory` and `Streams`.
 #![tactic(auto)]
 
 mod adapters;
 mod faults;
 mod memory;
+#[cfg(test)]
+mod stream_tests;
 #[cfg(test)]
 mod tests;
 mod traits;

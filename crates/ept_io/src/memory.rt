@@ -67,6 +67,10 @@ impl Source for MemorySource {
 
     ghost is_steady = { IsSteady };
 
+    ghost gives = { λ old bytes new. new ≡ after_read old (length bytes) };
+
+    ghost fails = { λ old new. new ≡ after_failed_read old };
+
     /// Gives as many bytes as are left, as fit and as the piece allows. It fails exactly where the
     /// number of this read stands in `fail_at`, and then `buf` stays as it was.
     fn read(&mut self, buf: &mut [u8]) -> Result<usize, Failed>
@@ -171,6 +175,10 @@ impl Sink for MemorySink {
     ghost faults = { λ s. s.faults };
 
     ghost has_room = { HasRoom };
+
+    ghost takes = { λ old bytes new. new ≡ after_write old bytes };
+
+    ghost fails = { λ old new. new ≡ after_failed_write old };
 
     /// Takes as many bytes as are given, as the piece allows and as there is room for. It fails
     /// exactly where the number of this write stands in `fail_at` or no room is left.

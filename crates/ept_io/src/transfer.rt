@@ -1,7 +1,8 @@
 // The calls that read a whole script and write a whole text, over any source and sink.
-ghost use Rattle.std.specs.Prelude.{◌≡◌, ◌≢◌, ℕ, ◌+◌, ◌-◌, ◌<◌, ◌≤◌, ◌↔◌, List, length, take, vec_len, IfOk, IfSome, IsOk, IsErrOf, OnOk, OnErr};
+ghost use Rattle.std.specs.Prelude.{◌≡◌, ◌≢◌, ℕ, ◌+◌, ◌-◌, ◌<◌, ◌≤◌, ◌↔◌, List, [], length, take, vec_len, IfOk, IfSome, IsOk, IsErrOf, OnOk, OnErr};
 ghost use Rattle.std.specs.Io.KnownBytes.{IsAtEnd};
 ghost use Rattle.ept_io.specs.Bytes.{Gave, Took};
+ghost use Rattle.ept_io.specs.Calls.{InCalls, InCallsThen};
 ghost use Rattle.ept_io.specs.Faults.{Rose};
 
 use crate::faults::Failed;
@@ -20,10 +21,11 @@ pub enum ReadErr {
     OutOfMemory,
 }
 
-/// Reads all bytes of `src` up to its end, at most `limit` of them. `ReadFault` comes only where
-/// the count of faults rose, and never from a steady source; `TooLong` exactly where byte `limit +
-/// 1` was given. Behind a refusal the source has given a part of its bytes, which is lost. Each
-/// turn takes at least one byte or ends the call.
+/// Reads all bytes of `src` up to its end, at most `limit` of them. `ReadFault` comes exactly where
+/// a read failed, and never from a steady source; `TooLong` exactly where byte `limit + 1` was
+/// given with no fault before. Each read gives at least one byte or ends the call: none follows
+/// the end of the source, a fault, or a byte past the limit. After a refusal the source has given
+/// a part of its bytes, which is lost.
 pub fn read_script<S: Source>(alloc: Global, src: &mut S, limit: usize) -> Result<Vec<u8>, ReadErr>
     // The bytes, where the source tells them.
     ensures bytes { IfOk result (λ script. IfSome (S.left src.old) (λ all. script.items ≡ all)) }
@@ -33,10 +35,24 @@ pub fn read_script<S: Source>(alloc: Global, src: &mut S, limit: usize) -> Resul
     ensures too_long { IfSome (S.left src.old) (λ all. IfSome (S.left src.new) (λ rest.
         IsErrOf result ReadErr.TooLong ↔ (limit + length rest < length all))) }
 
+    // The reads: each gave some bytes, but for the one that ended the call.
+    ensures reads { IfOk result (λ script.
+        InCallsThen S.gives src.old script.items (λ last. S.gives last [] src.new)) }
+    ensures reads_to_a_fault { IsErrOf result ReadErr.ReadFault → (bytes : List ℕ)
+        × (length bytes ≤ limit) × InCallsThen S.gives src.old bytes (λ last. S.fails last src.new) }
+    ensures reads_past_the_limit { IsErrOf result ReadErr.TooLong →
+        (bytes : List ℕ) × (piece : List ℕ) × (length bytes ≤ limit)
+        × (limit < length bytes + length piece)
+        × InCallsThen S.gives src.old bytes (λ last. S.gives last piece src.new) }
+    ensures reads_to_no_memory { IsErrOf result ReadErr.OutOfMemory → (bytes : List ℕ)
+        × (length bytes ≤ limit) × InCalls S.gives src.old bytes src.new }
+
     // The faults.
     ensures never_falls { S.faults src.old ≤ S.faults src.new }
     ensures read_fault { IsErrOf result ReadErr.ReadFault →
         Rose (S.faults src.old) (S.faults src.new) }
+    ensures no_fault { (¬ IsErrOf result ReadErr.ReadFault) →
+        S.faults src.new ≡ S.faults src.old }
     ensures steady { S.is_steady src.old → (¬ IsErrOf result ReadErr.ReadFault)
         × S.is_steady src.new × (S.faults src.new ≡ S.faults src.old) }
 {
@@ -56,15 +72,23 @@ pub fn read_script<S: Source>(alloc: Global, src: &mut S, limit: usize) -> Resul
     }
 }
 
-/// Writes all of `bytes` to `sink`. It fails only where the count of faults rose, and then a front
-/// part of `bytes` was appended that isn't the whole. Where the sink has room for all of `bytes`,
-/// it doesn't fail. Takes no memory.
+/// Writes all of `bytes` to `sink`. It fails exactly where a write failed, after which no write is
+/// made, and then a front part of `bytes` was appended that isn't the whole. Where the sink has
+/// room for all of `bytes`, it doesn't fail. Takes no memory.
 pub fn write_all<K: Sink>(sink: &mut K, bytes: &[u8]) -> Result<(), Failed>
     ensures ok { OnOk result (Took (K.written sink.old) bytes.now (K.written sink.new)) }
     ensures cut_short { OnErr result ((n : ℕ) × (n < length bytes.now)
         × Took (K.written sink.old) (take n bytes.now) (K.written sink.new)) }
+
+    // The writes: each took some bytes, but for the one that failed.
+    ensures writes { OnOk result (InCalls K.takes sink.old bytes.now sink.new) }
+    ensures writes_to_a_fault { OnErr result ((n : ℕ) × (n < length bytes.now)
+        × InCallsThen K.takes sink.old (take n bytes.now) (λ last. K.fails last sink.new)) }
+
+    // The faults.
     ensures never_falls { K.faults sink.old ≤ K.faults sink.new }
     ensures cause { OnErr result (Rose (K.faults sink.old) (K.faults sink.new)) }
+    ensures no_fault { OnOk result (K.faults sink.new ≡ K.faults sink.old) }
     ensures room { (room : ℕ) → K.has_room sink.old room → length bytes.now ≤ room →
         IsOk result × K.has_room sink.new (room - length bytes.now)
         × (K.faults sink.new ≡ K.faults sink.old) }

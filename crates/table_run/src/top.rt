@@ -53,6 +53,8 @@ pub fn run_main<R: Threads + Sync, S: Source, K: Sink>(
     // Reads and writes that failed, and a script past the limit.
     ensures read_fault { result ≡ Status.ReadFault → Rose (S.faults src.old) (S.faults src.new) }
     ensures write_fault { result ≡ Status.WriteFault → Rose (K.faults out.old) (K.faults out.new) }
+    ensures no_read_fault { result ≢ Status.ReadFault → S.faults src.new ≡ S.faults src.old }
+    ensures no_write_fault { result ≢ Status.WriteFault → K.faults out.new ≡ K.faults out.old }
     ensures too_long { form_of (map string_bytes args.now) ≢ None →
         IfSome (S.left src.old) (λ all. IfSome (S.left src.new) (λ rest.
         (result ≡ Status.TooLong) ↔ (most_bytes + length rest < length all))) }
