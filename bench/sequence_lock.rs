@@ -1,4 +1,5 @@
 //! `sequence_lock read N | write N | four N`: the same steps as `code_times`, over the atomics of Rust's `std`.
+//! After `four` it writes how many writes were done and how many reads gave a pair.
 use std::process::exit;
 use std::sync::atomic::{AtomicU64, Ordering::SeqCst};
 use std::thread::scope;
@@ -50,14 +51,16 @@ impl Entries {
         }
     }
 
-    fn read_calls(&self, n: u32) -> u64 {
+    fn read_calls(&self, n: u32) -> (u64, u64) {
+        let mut pairs = 0u64;
         let mut sum = 0u64;
         for _ in 0..n {
             if let Read::Pair { code, entry } = self.read(0) {
+                pairs += 1;
                 sum = sum.wrapping_add(code ^ entry);
             }
         }
-        sum
+        (pairs, sum)
     }
 
     fn write_calls(&self, n: u32) -> u64 {
@@ -78,13 +81,14 @@ fn main() {
     let entries = Entries { words: (0..3).map(|_| AtomicU64::new(0)).collect() };
     let entries = &entries;
     match mode.as_str() {
-        "read" => exit(i32::from(entries.read_calls(n) == 1)),
+        "read" => exit(i32::from(entries.read_calls(n).1 == 1)),
         "write" => exit(i32::from(entries.write_calls(n) != u64::from(n))),
         "four" => scope(|threads| {
-            threads.spawn(move || entries.write_calls(n));
-            threads.spawn(move || entries.write_calls(n));
-            threads.spawn(move || entries.read_calls(n));
-            threads.spawn(move || entries.read_calls(n));
+            let writers = [0, 1].map(|_| threads.spawn(move || entries.write_calls(n)));
+            let readers = [2, 3].map(|_| threads.spawn(move || entries.read_calls(n).0));
+            let done: u64 = writers.map(|w| w.join().unwrap()).iter().sum();
+            let pairs: u64 = readers.map(|r| r.join().unwrap()).iter().sum();
+            println!("{done} {pairs}");
         }),
         _ => exit(2),
     }

@@ -1,4 +1,4 @@
-use Rattle.std.proofs.Common.{rules, arith}
+use Rattle.std.proofs.Common.{rules}
 use Rattle.code_steps.proofs.OneCall.{read_shown, read_looked, pair_shown, pair_ends}
 use Rattle.code_steps.proofs.calls.read.Goals as goal
 

@@ -1,5 +1,4 @@
-use Rattle.std.proofs.Common.{rules, arith, length, ◌<◌}
-use Rattle.code_steps.specs.Seats.{view}
+use Rattle.std.proofs.Common.{rules}
 use Rattle.code_steps.proofs.OneCall.{missed_shown, write_shown, write_stored}
 use Rattle.code_steps.proofs.calls.write.Goals as goal
 

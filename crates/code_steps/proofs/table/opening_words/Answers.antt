@@ -1,4 +1,4 @@
-use Rattle.std.proofs.Common.{rules, arith}
+use Rattle.std.proofs.Common.{rules}
 use Rattle.code_steps.proofs.OpenKeeps.{words_step}
 use Rattle.code_steps.proofs.table.opening_words.Goals as goal
 
