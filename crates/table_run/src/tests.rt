@@ -8,6 +8,8 @@ use std::thread::Threads;
 
 const ONE_OBJECT: &str = "ept 1 seg=4 ext=1 tru=1 objects=1 mutators=1 markers=0\n";
 
+const VERSION_TWO: &str = "ept 2 seg=4 ext=1 tru=1 objects=1 mutators=1 markers=0\n";
+
 const TWO_OBJECTS: &str = "ept 1 seg=4 ext=1 tru=1 objects=2 mutators=1 markers=0\n";
 
 const ONE_CELL: &str = "m0 new a\nm0 init a 0 0f 0000000000c0\n";
@@ -135,6 +137,13 @@ fn worked_scripts_give_their_reports(rt: HostRuntime) -> Result<(), Fail> {
             "m0 forge a 0 00010000\nm0 load a 0 0f\nm0 rawset 00010001 0f 0000000000c1\nm0 load a 0 0f\nm0 rawset 00010000 17 0000000000c2\nm0 rawset 00000000 0f 0000000000c2\nm0 swap a 0 17 0000000000c3\nm0 load a 0 0f\n",
             "m0 obj 0\nm0 ok\nm0 ok\nm0 value 0000000000c0\nm0 ok\nm0 value 0000000000c1\nm0 fault\nm0 null\nm0 fault\nm0 value 0000000000c1\nend live=1 trusted=0 objects=1\n",
         ),
+        // a range of tags finds each tag in it, and a store keeps the cell's tag
+        (
+            VERSION_TWO,
+            "m0 new a\nm0 init a 0 20 0000000000c0\nm0 load a 0 1f-21\nm0 load a 0 20\nm0 load a 0 21-ff\n",
+            "m0 store a 0 01-ff 0000000000c1\nm0 raw 00010000 01-1f\nm0 load a 0 20\nm0 swap a 0 20-21 0000000000c2\nm0 rawset 00010000 10-20 0000000000c3\nm0 load a 0 20\n",
+            "m0 obj 0\nm0 ok\nm0 value 0000000000c0\nm0 value 0000000000c0\nm0 fault\nm0 ok\nm0 fault\nm0 value 0000000000c1\nm0 value 0000000000c1\nm0 ok\nm0 value 0000000000c3\nend live=1 trusted=0 objects=1\n",
+        ),
         // a forged word keeps its low bits in the name, and an init finds it
         (
             ONE_OBJECT,
@@ -191,7 +200,7 @@ fn a_refused_script_writes_its_refusal_alone(rt: HostRuntime) -> Result<(), Fail
     for (header, lines, refusal, text) in [
         ("", "", ScriptErr::BadHeader, "refused: bad header\n"),
         (
-            "ept 2 seg=4\n",
+            "ept 3 seg=4 ext=1 tru=1 objects=1 mutators=1 markers=0\n",
             "end\n",
             ScriptErr::BadHeader,
             "refused: bad header\n",
@@ -265,6 +274,76 @@ fn a_refused_script_writes_its_refusal_alone(rt: HostRuntime) -> Result<(), Fail
     ] {
         let status = Status::Refused(refusal);
         check(&rt, plain(&["run"]), &[header, lines], status, text)?;
+    }
+    Ok(())
+}
+
+#[test]
+fn a_range_that_is_none_is_a_bad_tag(rt: HostRuntime) -> Result<(), Fail> {
+    for (header, line) in [
+        (VERSION_TWO, "m0 load a 0 20-20\n"),
+        (VERSION_TWO, "m0 load a 0 21-20\n"),
+        (VERSION_TWO, "m0 init a 0 00 0000000000c0\n"),
+        (VERSION_TWO, "m0 init a 0 20-21 0000000000c0\n"),
+        (ONE_OBJECT, "m0 load a 0 0f-17\n"),
+    ] {
+        let status = Status::Refused(ScriptErr::BadTag { line: 2 });
+        for word in ["run", "check", "upgrade"] {
+            check(
+                &rt,
+                plain(&[word]),
+                &[header, line, "end\n"],
+                status,
+                "line 2: bad tag\n",
+            )?;
+        }
+    }
+    Ok(())
+}
+
+#[test]
+fn upgrade_prints_the_script_in_version_two(rt: HostRuntime) -> Result<(), Fail> {
+    for header in [ONE_OBJECT, VERSION_TWO] {
+        check(
+            &rt,
+            plain(&["upgrade"]),
+            &["# first path\n", header, ONE_CELL, "m0 load a 0 0f\nend\n"],
+            Status::Ok,
+            "ept 2 seg=4 ext=1 tru=1 objects=1 mutators=1 markers=0\nm0 new a\nm0 init a 0 0f 0000000000c0\nm0 load a 0 0f\nend\n",
+        )?;
+    }
+    Ok(())
+}
+
+/// So many loads make a script of more than a megabyte.
+const LOADS: usize = 70_000;
+
+/// The line before and after so many lines of one kind.
+fn lines<A: AllocGlobal>(rt: &A, first: &str, line: &str, last: &str) -> Result<Vec<u8>, Fail> {
+    let mut bytes = Vec::from_slice(rt.alloc(), first.as_bytes())?;
+    for _ in 0..LOADS {
+        bytes.extend_from_slice(line.as_bytes())?;
+    }
+    bytes.extend_from_slice(last.as_bytes())?;
+    Ok(bytes)
+}
+
+#[test]
+fn a_megabyte_of_operations_is_run_and_checked(rt: HostRuntime) -> Result<(), Fail> {
+    let script = "ept 1 seg=4 ext=1 tru=1 objects=1 mutators=1 markers=0\nm0 new a\n";
+    let canonical = lines(&rt, script, "m0 load a 0 0f\n", "end\n")?;
+    let end = "end live=0 trusted=0 objects=1\n";
+    let report = lines(&rt, "m0 obj 0\n", "m0 null\n", end)?;
+    for (word, text) in [("run", report.as_slice()), ("check", canonical.as_slice())] {
+        let script = lines(&rt, script, "m0 load a 0 0f\n", "end\n")?;
+        let mut source = MemorySource::new(script, 65_536, Vec::new(rt.alloc()));
+        let mut sink = MemorySink::new(rt.alloc(), 2_097_152, 65_536, Vec::new(rt.alloc()))?;
+        let words = vec![in rt.alloc(); String::from_str(rt.alloc(), word)?]?;
+        assert_eq!(rt;
+            run_main(&rt, rt.alloc(), words.as_slice(), &mut source, &mut sink),
+            Status::Ok
+        );
+        assert!(rt; sink.bytes() == text);
     }
     Ok(())
 }
