@@ -47,7 +47,7 @@ use Rattle.worked_outcomes.specs.Compactions.{limits, init, filled, started, fin
 use Rattle.worked_outcomes.specs.WorkedLaws.{OtherMovesDoNotBelong}
 use Rattle.worked_outcomes.proofs.CompactionProof.{in_range}
 use Rattle.worked_outcomes.proofs.Objects.{IsSound-history}
-use Rattle.worked_outcomes.proofs.PauseKeeps.{Keeps, keeps-scans}
+use Rattle.worked_outcomes.proofs.PauseKeeps.{Keeps, keeps-scans, keeps-start}
 use Rattle.worked_outcomes.proofs.ForcedCalls.{legal-parts, events-mine, none-forced, new-forced, init-forced}
 
 -- the calls of the first phase, and their replies
@@ -178,7 +178,7 @@ moves-done s events sweep sound h start done legal met =
     let r : IsReady t = ready-keeps s t h met.keeps in
     let parts = legal-parts s met.scans (finish ∷ []) (subst (IsLegalHistory s) met.is legal) in
     let k : CycleSound t c = CycleSound-is t c (IsSound-after events-sound met.scans s sound parts.0) met.at in
-    let begins : c.start ≡ Some 4 = sym (ap start_in met.at) ∙ met.keeps.start ∙ start in
+    let begins : c.start ≡ Some 4 = sym (ap start_in met.at) ∙ keeps-start s t met.keeps ∙ start in
     let aborted : c.aborted ≡ false = done-by c.start c.aborted (sym done ∙ met.sweeps.compaction) in
     let moves : moves_from c ≡ Some 4 = ap (λ (b : Bool). if b then None else c.start) aborted ∙ begins in
     let from : is_from (moves_from c) 4 ≡ true = ap (λ (o : Option ℕ). is_from o 4) moves in
