@@ -6,8 +6,8 @@ pub mod CompactionProof
 pub mod ScansMay
 pub mod PauseKeeps
 pub mod ForcedCalls
-pub mod AnyHistory
-pub mod TrustedMisses
+pub mod OneMove
+pub mod CallsNeeded
 pub mod SingleCalls
 pub mod NotDueProof
-pub mod UndueScans
+pub mod DueScans

@@ -150,7 +150,7 @@ met-by linked s events sweep h =
       sweeps = IsSomeAnd-is t.cycle (λ c. IsSweep t c (finished t c) sweep) found.0 found.1 h.3;
     }
 
--- behind an abort the cell stays where it is
+-- after an abort the cell stays where it is
 ready-aborted : (s : Table) (events : List Event) (sweep : SweepReport) → IsReady s → sweep.compaction ≡ Aborted → Met s events sweep → IsReady (after s events)
 ready-aborted s events sweep h aborted met =
     let t = after s met.scans in
