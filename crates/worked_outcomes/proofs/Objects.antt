@@ -20,7 +20,7 @@ use Rattle.plain_table.specs.Sweeps.{IsDue, Was_root, Was_linked, Is_root, Is_re
 use Rattle.plain_table.specs.Sound.{IsSound, CycleSound}
 use Rattle.plain_table.proofs.Options.{IfSome-is}
 use Rattle.table_laws.proofs.Reach.{Reaches-fold}
-use Rattle.table_laws.proofs.OpeningSound.{IsSound-opening}
+use Rattle.plain_table.proofs.OpeningSound.{IsSound-opening}
 use Rattle.table_laws.proofs.Soundness.{events-sound}
 use Rattle.table_laws.proofs.SoundHistories.{histories-sound}
 use Rattle.table_laws.proofs.FinishLaws.{CanFinish-scanned}
