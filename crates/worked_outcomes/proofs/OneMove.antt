@@ -67,11 +67,12 @@ filled-forced es made legal =
     let c = init-forced 0 2 0x0f 6 (reply.Taken (word_of 1)) b refl (λ e. absurd (cc)) refl in
     let d = init-forced 0 3 0x0f 7 (reply.Taken (word_of 1)) c refl (λ e. absurd (cc)) refl in
     let f = init-forced 1 4 0x17 8 reply.Ok d refl (λ e. absurd (cc)) refl in
-    z.is ∙ a.is ∙ ap (λ (x : List Event). event 0 (New 0) (reply.Obj 0) ∷ x)
-    (b.is ∙ ap (λ (x : List Event). init 0 1 0x0f 5 reply.Ok ++ x)
-    (c.is ∙ ap (λ (x : List Event). init 0 2 0x0f 6 (reply.Taken (word_of 1)) ++ x)
-    (d.is ∙ ap (λ (x : List Event). init 0 3 0x0f 7 (reply.Taken (word_of 1)) ++ x)
-    (f.is ∙ ap (λ (x : List Event). init 1 4 0x17 8 reply.Ok ++ x) f.made))))
+    let last : d.later ≡ init 1 4 0x17 8 reply.Ok = f.is ∙ ap (λ (x : List Event). init 1 4 0x17 8 reply.Ok ++ x) f.made in
+    let third : c.later ≡ init 0 3 0x0f 7 (reply.Taken (word_of 1)) ++ init 1 4 0x17 8 reply.Ok =
+    d.is ∙ ap (λ (x : List Event). init 0 3 0x0f 7 (reply.Taken (word_of 1)) ++ x) last in
+    let second : b.later ≡ init 0 2 0x0f 6 (reply.Taken (word_of 1)) ++ init 0 3 0x0f 7 (reply.Taken (word_of 1)) ++ init 1 4 0x17 8 reply.Ok =
+    c.is ∙ ap (λ (x : List Event). init 0 2 0x0f 6 (reply.Taken (word_of 1)) ++ x) third in
+    z.is ∙ a.is ∙ ap (λ (x : List Event). event 0 (New 0) (reply.Obj 0) ∷ x) (b.is ∙ ap (λ (x : List Event). init 0 1 0x0f 5 reply.Ok ++ x) second)
 
 -- the second field of the first object has its cell at index 4, and there is none above
 record IsReady (s : Table) : Type 0 where
