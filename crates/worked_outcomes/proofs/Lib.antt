@@ -3,9 +3,11 @@ pub mod Objects
 pub mod TrustedProof
 pub mod MarkerProof
 pub mod CompactionProof
+pub mod ScansMay
 pub mod PauseKeeps
 pub mod ForcedCalls
-pub mod AnyHistory
-pub mod TrustedMisses
-pub mod ScansMay
+pub mod OneMove
+pub mod CallsNeeded
+pub mod SingleCalls
 pub mod NotDueProof
+pub mod DueScans

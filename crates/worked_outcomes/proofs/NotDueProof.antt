@@ -1,14 +1,9 @@
--- A pause that scans an object that is not due.
-use Rattle.std.proofs.Common.{◌≡◌, ℕ, ◌<◌, [], ◌∷◌, ◌++◌, List, Some, None, refl, arith, inl, inr, take, drop, subst, sym, Option, true, false}
+-- An object that is not due: the outcome without its scan belongs, and the history with its scan is legal.
+use Rattle.std.proofs.Common.{◌≡◌, ℕ, ◌<◌, [], ◌∷◌, List, Some, None, refl, arith, inl, inr, take, drop, subst, sym, Option, true, false}
 use Rattle.std.specs.Prelude.{◌||◌}
-use Rattle.std.proofs.lemmas.List.{append_cancel_right}
 use Rattle.plain_table.specs.declared.events.Event.{Event}
 use Rattle.plain_table.specs.declared.events.Act.TheVariants.{Finish}
 use Rattle.plain_table.specs.declared.reports.Reply.TheVariants as reply
-use Rattle.plain_table.specs.declared.reports.MeetReport.{MeetReport}
-use Rattle.plain_table.specs.declared.reports.MeetReport.TheVariants as report
-use Rattle.plain_table.specs.declared.reports.PhaseReport.{PhaseReport}
-use Rattle.plain_table.specs.declared.scripts.Meet.TheVariants as meet
 use Rattle.plain_table.specs.Ranges.{IsInRange}
 use Rattle.plain_table.specs.Table.{Table, opening}
 use Rattle.plain_table.specs.Reachable.{By_global, By_variable, By_reference, IsRoot}
@@ -17,19 +12,17 @@ use Rattle.plain_table.specs.Shapes.{event}
 use Rattle.plain_table.specs.Finish.{IsReachable}
 use Rattle.plain_table.specs.Cycle.{Cycle}
 use Rattle.plain_table.specs.History.{IsLegalHistory, after}
-use Rattle.plain_table.specs.Sweeps.{IsDue, Was_root, Was_linked, Is_root, Is_referred, IsPause, MeetBelongs, MayScanAtMeet, meeting}
-use Rattle.plain_table.specs.Scans.{IsReadAtMeet, Rest, Begins, Passes, Stays, Says, Ends, Turn, Make}
-use Rattle.plain_table.specs.Belongs.{Belongs, PhasesBelong, whole}
+use Rattle.plain_table.specs.Sweeps.{IsDue, Was_root, Was_linked, Is_root, Is_referred, meeting}
+use Rattle.plain_table.specs.Scans.{Begins, Passes, Stays, Says, Ends, Turn, Make}
+use Rattle.plain_table.specs.Belongs.{Belongs, whole}
 use Rattle.plain_table.proofs.CallsMade.{IsLegalHistory-append}
 use Rattle.table_laws.proofs.FinishLaws.{CanFinish-scanned}
 use Rattle.worked_outcomes.specs.NotDue.{limits, script, parts_scanning, due_scans, more_scans, linked, emptied, outcome}
-use Rattle.worked_outcomes.specs.WorkedLaws.{PausesScanWhatIsDue}
-use Rattle.worked_outcomes.proofs.ScansMay.{scanned-may}
 use Rattle.worked_outcomes.proofs.Phases.{numbers-by, own-by, one-mutator, fields_of, fields-are}
 use Rattle.worked_outcomes.proofs.Objects.{IsInRange-small, IsSound-history, IsLegalHistory-take, finish-by, scan-by}
 
 -- the table at the pause
-abbrev pause : Table
+abbrev pub pause : Table
 pause = after (opening limits) (take 6 (whole (parts_scanning due_scans)))
 
 -- the one root is the first object, now as at the start
@@ -46,7 +39,7 @@ no-reference : (o k q : ℕ) → pause.refs o k ≡ Some q → ⊥
 no-reference o k q e = grind arith
 
 -- so only the first object is due, or reachable
-due-zero : (s : Table) (c : Cycle) → c.globals ≡ pause.globals → c.vars ≡ pause.vars → s.globals ≡ pause.globals → s.vars ≡ pause.vars → s.refs ≡ pause.refs →
+pub due-zero : (s : Table) (c : Cycle) → c.globals ≡ pause.globals → c.vars ≡ pause.vars → s.globals ≡ pause.globals → s.vars ≡ pause.vars → s.refs ≡ pause.refs →
     (o : ℕ) → IsDue s c [] o → o ≡ 0
 due-zero s c e1 e2 e3 e4 e5 _ (Was_root o r) = root-zero c.globals c.vars e1 e2 o r
 due-zero s c e1 e2 e3 e4 e5 _ (Was_linked o within) = absurd (let least : within.0 < 0 = within.1 in omega arith)
@@ -98,7 +91,7 @@ legal-so-far = (
   ),
 )
 
-legal-more : IsLegalHistory (opening limits) (whole (parts_scanning more_scans))
+pub legal-more : IsLegalHistory (opening limits) (whole (parts_scanning more_scans))
 legal-more =
     IsLegalHistory-append (opening limits) so_far (event meeting Finish reply.Ok ∷ []) legal-so-far
     (((refl, finish-by (after (opening limits) so_far) (IsSound-history limits so_far in_range legal-so-far) refl refl), refl), tt)
@@ -124,7 +117,7 @@ legal =
       tt,
     )
 
-belongs : Belongs script (parts_scanning due_scans) outcome
+pub belongs : Belongs script (parts_scanning due_scans) outcome
 belongs = record {
   legal = legal;
   phases = (
@@ -198,30 +191,3 @@ belongs = record {
   );
   totals = record { live = refl; trusted = refl; objects = refl; sum = refl; puts = refl };
 }
-
--- a pause with both scans would scan an object that is not due
-no-pause : IsPause [] pause more_scans → ⊥
-no-pause is =
-    let all = scanned-may (MayScanAtMeet []) IsReadAtMeet meeting (λ o. o ≡ 0) Rest pause more_scans Rest is.scans (
-      λ o due. due-zero pause _ refl refl refl refl refl o due,
-      (
-        λ o due. due-zero (after pause due_scans) _ refl refl refl refl refl o due,
-        λ o due. due-zero (after pause more_scans) _ refl refl refl refl refl o due,
-      ),
-    ) tt in
-    let second : ◌≡◌ {A = ℕ} 1 0 = all.1.0 1 refl refl in absurd (cc)
-
-no-meet : (met : MeetReport) → MeetBelongs [] pause meet.Finish (more_scans ++ event meeting Finish reply.Ok ∷ []) met → ⊥
-no-meet report.Plain h = h
-no-meet (report.Started area) h = h
-no-meet (report.Swept sweep) h =
-    no-pause (subst (IsPause [] pause) (sym (append_cancel_right more_scans h.0 (event meeting Finish reply.Ok ∷ []) h.1)) h.2)
-no-meet report.Ended h = h
-
-no-phases : (reports : List PhaseReport) → PhasesBelong limits false [] (opening limits) script.phases (parts_scanning more_scans) reports → ⊥
-no-phases [] h = h
-no-phases (first ∷ []) h = h.1
-no-phases (first ∷ second ∷ reports) h = no-meet second.meet h.1.0.meet
-
-pub due-scanned : PausesScanWhatIsDue
-due-scanned = (belongs, legal-more, λ other of. no-phases other.phases of.phases)

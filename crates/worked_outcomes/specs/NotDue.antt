@@ -5,6 +5,7 @@ use Rattle.std.specs.Prelude.{List, [], ◌∷◌, ◌++◌, Some, None}
 use Rattle.plain_table.specs.declared.scripts.Limits.{Limits}
 use Rattle.plain_table.specs.declared.scripts.Op.TheVariants as op
 use Rattle.plain_table.specs.declared.scripts.Meet.TheVariants as meet
+use Rattle.plain_table.specs.declared.scripts.Phase.{Phase}
 use Rattle.plain_table.specs.declared.scripts.Policy.TheVariants.{Never}
 use Rattle.plain_table.specs.declared.scripts.Script.{Script}
 use Rattle.plain_table.specs.declared.events.Act.TheVariants.{New, Drop, Link, Scan, Start, Finish}
@@ -21,19 +22,20 @@ use Rattle.plain_table.specs.Belongs.{Part}
 abbrev pub limits : Limits
 limits = record { seg = 4; ext = 1; tru = 1; objects = 2; mutators = 1; markers = 0 }
 
-abbrev pub script : Script
-script = record {
-  version = 1;
-  limits = limits;
-  phases =
-      record {
-        calls = (op.New 0 ∷ op.New 1 ∷ op.Link 0 0 (Some 1) ∷ op.Drop 1 ∷ []) ∷ [];
-        meet = meet.Start Never;
-      }
-      ∷ record { calls = (op.Link 0 0 None ∷ []) ∷ []; meet = meet.Finish }
-      ∷ record { calls = [] ∷ []; meet = meet.End }
-      ∷ [];
+abbrev pub linking : Phase
+linking = record {
+  calls = (op.New 0 ∷ op.New 1 ∷ op.Link 0 0 (Some 1) ∷ op.Drop 1 ∷ []) ∷ [];
+  meet = meet.Start Never;
 }
+
+abbrev pub emptying : Phase
+emptying = record { calls = (op.Link 0 0 None ∷ []) ∷ []; meet = meet.Finish }
+
+abbrev pub ending : Phase
+ending = record { calls = [] ∷ []; meet = meet.End }
+
+abbrev pub script : Script
+script = record { version = 1; limits = limits; phases = linking ∷ emptying ∷ ending ∷ [] }
 
 abbrev pub linked : List Event
 linked =

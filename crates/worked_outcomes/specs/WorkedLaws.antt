@@ -1,5 +1,7 @@
 -- Laws of single outcomes: this outcome belongs to this script by this history, or does not.
-use Rattle.std.specs.Prelude.{◌≡◌, ℕ, List, []}
+use Rattle.std.specs.Prelude.{◌≡◌, ◌≢◌, ℕ, List, []}
+use Rattle.std.specs.List.{All}
+use Rattle.plain_table.specs.declared.events.Act.TheVariants.{Scan}
 use Rattle.plain_table.specs.declared.events.Event.{Event}
 use Rattle.plain_table.specs.declared.reports.Outcome.{Outcome}
 use Rattle.plain_table.specs.Table.{opening}
@@ -34,10 +36,10 @@ EventsNeedTheirCall =
     IsLegalHistory (opening trusted.limits) (whole (trusted.parts_with trusted.one_look))
     × ((more : List Event) (outcome : Outcome) → Belongs trusted.script (trusted.parts_with more) outcome → more ≡ [])
 
--- a near miss: no outcome belongs by a history with a scan of an object that is not due, though the history is legal; and
--- without that scan one belongs
+-- a near miss: by no history in which an object is scanned that is not due does an outcome belong to the script, though a
+-- history with that scan is legal; and without the scan one belongs
 abbrev pub PausesScanWhatIsDue : Type 0
 PausesScanWhatIsDue =
     Belongs undue.script (undue.parts_scanning undue.due_scans) undue.outcome
     × IsLegalHistory (opening undue.limits) (whole (undue.parts_scanning undue.more_scans))
-    × ((outcome : Outcome) → Belongs undue.script (undue.parts_scanning undue.more_scans) outcome → ⊥)
+    × ((parts : List Part) (outcome : Outcome) → Belongs undue.script parts outcome → All (λ (e : Event). e.act ≢ Scan 1) (whole parts))

@@ -45,8 +45,8 @@ pub fn events_need_their_call()
     ensures { EventsNeedTheirCall }
 {}
 
-/// A near miss: by a history whose pause scans an object that is not due, no outcome belongs, though that history is legal;
-/// and without that scan one belongs.
+/// A near miss: by no history that scans an object that is not due does an outcome belong to the script, though such a
+/// history is legal; and without that scan one belongs.
 pub fn pauses_scan_what_is_due()
     ensures { PausesScanWhatIsDue }
 {}

@@ -1,4 +1,4 @@
-use Rattle.worked_outcomes.proofs.AnyHistory.{one-move}
+use Rattle.worked_outcomes.proofs.OneMove.{one-move}
 use Rattle.worked_outcomes.proofs.other_moves_do_not_belong.Goals as goal
 
 pub returns : goal.returns

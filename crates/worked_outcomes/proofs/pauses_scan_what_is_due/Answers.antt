@@ -1,4 +1,4 @@
-use Rattle.worked_outcomes.proofs.NotDueProof.{due-scanned}
+use Rattle.worked_outcomes.proofs.DueScans.{due-scanned}
 use Rattle.worked_outcomes.proofs.pauses_scan_what_is_due.Goals as goal
 
 pub returns : goal.returns

@@ -47,7 +47,7 @@ use Rattle.worked_outcomes.specs.Compactions.{limits, init, filled, started, fin
 use Rattle.worked_outcomes.specs.WorkedLaws.{OtherMovesDoNotBelong}
 use Rattle.worked_outcomes.proofs.CompactionProof.{in_range}
 use Rattle.worked_outcomes.proofs.Objects.{IsSound-history}
-use Rattle.worked_outcomes.proofs.PauseKeeps.{Keeps, keeps-scans}
+use Rattle.worked_outcomes.proofs.PauseKeeps.{Keeps, keeps-scans, keeps-start}
 use Rattle.worked_outcomes.proofs.ForcedCalls.{legal-parts, events-mine, none-forced, new-forced, init-forced}
 
 -- the calls of the first phase, and their replies
@@ -67,11 +67,12 @@ filled-forced es made legal =
     let c = init-forced 0 2 0x0f 6 (reply.Taken (word_of 1)) b refl (λ e. absurd (cc)) refl in
     let d = init-forced 0 3 0x0f 7 (reply.Taken (word_of 1)) c refl (λ e. absurd (cc)) refl in
     let f = init-forced 1 4 0x17 8 reply.Ok d refl (λ e. absurd (cc)) refl in
-    z.is ∙ a.is ∙ ap (λ (x : List Event). event 0 (New 0) (reply.Obj 0) ∷ x)
-    (b.is ∙ ap (λ (x : List Event). init 0 1 0x0f 5 reply.Ok ++ x)
-    (c.is ∙ ap (λ (x : List Event). init 0 2 0x0f 6 (reply.Taken (word_of 1)) ++ x)
-    (d.is ∙ ap (λ (x : List Event). init 0 3 0x0f 7 (reply.Taken (word_of 1)) ++ x)
-    (f.is ∙ ap (λ (x : List Event). init 1 4 0x17 8 reply.Ok ++ x) f.made))))
+    let last : d.later ≡ init 1 4 0x17 8 reply.Ok = f.is ∙ ap (λ (x : List Event). init 1 4 0x17 8 reply.Ok ++ x) f.made in
+    let third : c.later ≡ init 0 3 0x0f 7 (reply.Taken (word_of 1)) ++ init 1 4 0x17 8 reply.Ok =
+    d.is ∙ ap (λ (x : List Event). init 0 3 0x0f 7 (reply.Taken (word_of 1)) ++ x) last in
+    let second : b.later ≡ init 0 2 0x0f 6 (reply.Taken (word_of 1)) ++ init 0 3 0x0f 7 (reply.Taken (word_of 1)) ++ init 1 4 0x17 8 reply.Ok =
+    c.is ∙ ap (λ (x : List Event). init 0 2 0x0f 6 (reply.Taken (word_of 1)) ++ x) third in
+    z.is ∙ a.is ∙ ap (λ (x : List Event). event 0 (New 0) (reply.Obj 0) ∷ x) (b.is ∙ ap (λ (x : List Event). init 0 1 0x0f 5 reply.Ok ++ x) second)
 
 -- the second field of the first object has its cell at index 4, and there is none above
 record IsReady (s : Table) : Type 0 where
@@ -150,7 +151,7 @@ met-by linked s events sweep h =
       sweeps = IsSomeAnd-is t.cycle (λ c. IsSweep t c (finished t c) sweep) found.0 found.1 h.3;
     }
 
--- behind an abort the cell stays where it is
+-- after an abort the cell stays where it is
 ready-aborted : (s : Table) (events : List Event) (sweep : SweepReport) → IsReady s → sweep.compaction ≡ Aborted → Met s events sweep → IsReady (after s events)
 ready-aborted s events sweep h aborted met =
     let t = after s met.scans in
@@ -178,7 +179,7 @@ moves-done s events sweep sound h start done legal met =
     let r : IsReady t = ready-keeps s t h met.keeps in
     let parts = legal-parts s met.scans (finish ∷ []) (subst (IsLegalHistory s) met.is legal) in
     let k : CycleSound t c = CycleSound-is t c (IsSound-after events-sound met.scans s sound parts.0) met.at in
-    let begins : c.start ≡ Some 4 = sym (ap start_in met.at) ∙ met.keeps.start ∙ start in
+    let begins : c.start ≡ Some 4 = sym (ap start_in met.at) ∙ keeps-start s t met.keeps ∙ start in
     let aborted : c.aborted ≡ false = done-by c.start c.aborted (sym done ∙ met.sweeps.compaction) in
     let moves : moves_from c ≡ Some 4 = ap (λ (b : Bool). if b then None else c.start) aborted ∙ begins in
     let from : is_from (moves_from c) 4 ≡ true = ap (λ (o : Option ℕ). is_from o 4) moves in
