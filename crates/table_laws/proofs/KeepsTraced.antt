@@ -130,7 +130,7 @@ TracedIn-link s b (Ref object i) var h =
     (λ c d. TracedSound-linked s.count (IsOld c) c.born c.scans s.refs s.globals s.vars object i (object_in s b var) (object_in-held s b var c d.traced) d.traced)
 
 -- each reachable object is made
-IsReachable-made : (s : Table) → IsSound s → (o : ℕ) → IsReachable s o → o < s.count
+pub IsReachable-made : (s : Table) → IsSound s → (o : ℕ) → IsReachable s o → o < s.count
 IsReachable-made s h _ (By_global g o e) = (h.objects.roots g o e).1
 IsReachable-made s h _ (By_variable b v o e) = (h.objects.variables b v o e).2
 IsReachable-made s h _ (By_reference o k q r e) = (h.objects.references o k q e).2

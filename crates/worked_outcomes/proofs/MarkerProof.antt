@@ -16,7 +16,8 @@ use Rattle.plain_table.specs.Belongs.{Belongs, HasTotals, IsScannedIn, whole, ev
 use Rattle.plain_table.proofs.CallsMade.{IsLegalHistory-append}
 use Rattle.worked_outcomes.specs.ConcurrentMarker.{limits, script, parts, outcome, before, concurrent, loaded}
 use Rattle.worked_outcomes.proofs.Phases.{numbers-by, one-mutator, one-marker, fields_of, fields-are, scans-nothing}
-use Rattle.worked_outcomes.proofs.Objects.{IsInRange-small, IsSound-history, IsLegalHistory-take, reachable-made, root-reachable, finish-by, complete-by, scan-by}
+use Rattle.table_laws.proofs.KeepsTraced.{IsReachable-made}
+use Rattle.worked_outcomes.proofs.Objects.{IsInRange-small, IsSound-history, IsLegalHistory-take, root-reachable, finish-by, complete-by, scan-by}
 
 in_range : IsInRange limits
 in_range = IsInRange-small 1 2 1 (omega arith) (omega arith) (omega arith) (omega arith) (omega arith)
@@ -153,8 +154,8 @@ marker-belongs = record {
         );
         scans = one-marker _ marker-scans;
         numbers = numbers-by limits concurrent refl;
-        roots = λ begins some o r. scanned o (reachable-made at_start sound-start o (root-reachable at_start o r));
-        old = λ begins some none o r. scanned o (reachable-made at_start sound-start o r);
+        roots = λ begins some o r. scanned o (IsReachable-made at_start sound-start o (root-reachable at_start o r));
+        old = λ begins some none o r. scanned o (IsReachable-made at_start sound-start o r);
         lists = refl;
         meet = (
           [],

@@ -19,7 +19,7 @@ use Rattle.plain_table.specs.History.{IsLegalHistory, next, after}
 use Rattle.plain_table.specs.Sweeps.{IsDue, Was_root, Was_linked, Is_root, Is_referred}
 use Rattle.plain_table.specs.Sound.{IsSound, CycleSound}
 use Rattle.plain_table.proofs.Options.{IfSome-is}
-use Rattle.table_laws.proofs.Reach.{Reaches-fold}
+use Rattle.table_laws.proofs.KeepsTraced.{IsReachable-made}
 use Rattle.plain_table.proofs.OpeningSound.{IsSound-opening}
 use Rattle.table_laws.proofs.Soundness.{events-sound}
 use Rattle.table_laws.proofs.SoundHistories.{histories-sound}
@@ -47,13 +47,6 @@ IsLegalHistory-take s zero es legal = tt
 IsLegalHistory-take s (suc n) [] legal = tt
 IsLegalHistory-take s (suc n) (e ∷ es) legal = (legal.0, IsLegalHistory-take (next s e) n es legal.1)
 
-pub reachable-made : (s : Table) → IsSound s → (o : ℕ) → IsReachable s o → o < s.count
-reachable-made s h o r =
-    Reaches-fold (λ q. q < s.count) o r
-    (λ g q e. (h.objects.roots g q e).1)
-    (λ b v q e. (h.objects.variables b v q e).2)
-    (λ m k q below e. (h.objects.references m k q e).2)
-
 pub root-reachable : (s : Table) (o : ℕ) → IsRoot s.globals s.vars o → IsReachable s o
 root-reachable s o (inl r) = By_global r.0 o r.1
 root-reachable s o (inr r) = By_variable r.0 r.1 o r.2
@@ -63,7 +56,7 @@ due-made : (s : Table) (c : Cycle) (linked : List ℕ) → IsSound s → CycleSo
 due-made s c linked h k links _ (Was_root o (inl r)) = k.traced.made o (inl (By_global r.0 o r.1))
 due-made s c linked h k links _ (Was_root o (inr r)) = k.traced.made o (inl (By_variable r.0 r.1 o r.2))
 due-made s c linked h k links _ (Was_linked o within) = links o within
-due-made s c linked h k links _ (Is_root o r) = reachable-made s h o (root-reachable s o r)
+due-made s c linked h k links _ (Is_root o r) = IsReachable-made s h o (root-reachable s o r)
 due-made s c linked h k links _ (Is_referred o n q due e) = (h.objects.references o n q e).2
 
 -- the object is scanned or born in the cycle
@@ -100,7 +93,7 @@ finish-in : (s : Table) → IsSound s → (cycle : Option Cycle) → s.cycle ≡
     all_below (is_traced cycle) s.count ≡ true → IsSomeAnd cycle (CanFinish s)
 finish-in s h None is some all = absurd (cc)
 finish-in s h (Some c) is some all =
-    CanFinish-scanned s c h is (λ o r. let traced : (c.scans o || c.born o) ≡ true = below-all (is_traced (Some c)) s.count all o (reachable-made s h o r) in or_cases (c.scans o) (c.born o) traced)
+    CanFinish-scanned s c h is (λ o r. let traced : (c.scans o || c.born o) ≡ true = below-all (is_traced (Some c)) s.count all o (IsReachable-made s h o r) in or_cases (c.scans o) (c.born o) traced)
 
 pub finish-by : (s : Table) → IsSound s → IsSome s.cycle → all_below (is_traced s.cycle) s.count ≡ true → InCycle s (CanFinish s)
 finish-by s h some all = finish-in s h s.cycle refl some all
