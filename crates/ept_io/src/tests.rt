@@ -118,7 +118,7 @@ impl Write for Full {
     }
 }
 
-// What no contract says of the adapters: that the bytes are those of the reader and the writer.
+// What no contract says over a reader that tells nothing: that the bytes are its own.
 #[test]
 fn the_adapters_pass_bytes_on_and_faults_too(rt: HostRuntime) -> Result<(), Fail> {
     let long = [b'x'; 10_000];
