@@ -1,0 +1,14 @@
+pub mod Counts
+pub mod PassSteps
+pub mod WordKinds
+pub mod SpaceSweeps
+pub mod AfterPass
+pub mod EntryKinds
+pub mod Still
+pub mod MoveSteps
+pub mod Moved
+pub mod MoveLoop
+pub mod Finished
+pub mod Resolved
+pub mod SweptImages
+pub mod Started
