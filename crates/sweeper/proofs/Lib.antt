@@ -12,3 +12,6 @@ pub mod Finished
 pub mod Resolved
 pub mod SweptImages
 pub mod Started
+pub mod UsedIndexes
+pub mod HeldRoots
+pub mod Begun

@@ -6,12 +6,17 @@
 //! what the entries of a space have to hold before their last pass.
 #![tactic(auto)]
 
+mod area;
 mod begins;
 mod images;
 mod marks;
 mod moves;
 mod pass;
+mod roots;
 mod sweeps;
+mod usage;
 
+pub use area::Area;
+pub use begins::begin;
 pub use images::{Image, Pending, sweep};
 pub use sweeps::Shape;
