@@ -16,7 +16,7 @@ use Rattle.plain_table.specs.Index.{index_of}
 use Rattle.plain_table.specs.Cycle.{start_in, marked_in, touched_in}
 use Rattle.plain_table.specs.Table.{Table, least_free}
 use Rattle.plain_table.specs.Finish.{id_at}
-use Rattle.plain_table.specs.Rows.{row, HasCell, value_at, free_below, tickets_behind, with_taken, with_bound, with_unbound, with_value}
+use Rattle.plain_table.specs.Rows.{row, HasCell, is_asked, value_at, free_below, tickets_behind, with_taken, with_bound, with_unbound, with_value}
 use Rattle.plain_table.specs.History.{IsLegal, next}
 use Rattle.plain_table.specs.declared.events.Event.{Event}
 use Rattle.plain_table.specs.Shapes.{event}
@@ -123,8 +123,8 @@ makes_bound old k1 k2 k3 k4 new b f word p i id said allowed none is space index
       s5 ∙ s4 ∙ s3 ∙ s2 ∙ s1,
     )
 
-has_cell : (k : Kept) (word tag : ℕ) (c : Cell) → (shown k).cells External (index_of word) ≡ Some c → c.tag ≡ tag → HasCell (shown k) word tag
-has_cell k word tag c at tags = subst (λ (found : Option Cell). IsSomeAnd found (λ (x : Cell). x.tag ≡ tag)) (sym at) tags
+has_cell : (k : Kept) (word first last : ℕ) (c : Cell) → (shown k).cells External (index_of word) ≡ Some c → IsTrue (is_asked first last c.tag) → HasCell (shown k) word first last
+has_cell k word first last c at tags = subst (λ (found : Option Cell). IsSomeAnd found (λ (x : Cell). IsTrue (is_asked first last x.tag))) (sym at) tags
 
 pub stores : (old mid new : Kept) (i value : ℕ) (c : Cell) → (shown old).cells External i ≡ Some c →
     shown mid ≡ record (shown old) { cells = put_entry (shown old).cells External i (Some (record c { value = value })) } →
@@ -134,19 +134,19 @@ stores old mid new i value c at e1 e2 =
     e2 ∙ ap (λ (t : Table). record t { cycle = marked_in t.cycle External i }) (
     e1 ∙ ap (λ (found : Option Cell). record (shown old) { cells = put_entry (shown old).cells External i (option_map (λ (x : Cell). record x { value = value }) found) }) (sym at))
 
-pub makes_set : (old new : Kept) (b word tag value i : ℕ) (c : Cell) (said : Reply) → i ≡ index_of word →
-    (shown old).cells External (index_of word) ≡ Some c → c.tag ≡ tag → value < 2 ^ 48 → said ≡ reply.Ok →
+pub makes_set : (old new : Kept) (b word first last value i : ℕ) (c : Cell) (said : Reply) → i ≡ index_of word →
+    (shown old).cells External (index_of word) ≡ Some c → IsTrue (is_asked first last c.tag) → value < 2 ^ 48 → said ≡ reply.Ok →
     shown new ≡ with_value (shown old) i value → new.spent ≡ old.spent →
     Steps true old new (event b (Set word first last value) said)
-makes_set old new b word tag value i c said index at tags small is stored s =
-    (((has_cell old word tag c at tags, small), is), stored ∙ ap (λ (j : ℕ). with_value (shown old) j value) index, s)
+makes_set old new b word first last value i c said index at tags small is stored s =
+    (((has_cell old word first last c at tags, small), is), stored ∙ ap (λ (j : ℕ). with_value (shown old) j value) index, s)
 
-pub makes_swap : (old new : Kept) (b word tag value i : ℕ) (c : Cell) (said : Reply) → i ≡ index_of word →
-    (shown old).cells External (index_of word) ≡ Some c → c.tag ≡ tag → value < 2 ^ 48 → said ≡ reply.Value c.value →
+pub makes_swap : (old new : Kept) (b word first last value i : ℕ) (c : Cell) (said : Reply) → i ≡ index_of word →
+    (shown old).cells External (index_of word) ≡ Some c → IsTrue (is_asked first last c.tag) → value < 2 ^ 48 → said ≡ reply.Value c.value →
     shown new ≡ with_value (shown old) i value → new.spent ≡ old.spent →
     Steps true old new (event b (Swap word first last value) said)
-makes_swap old new b word tag value i c said index at tags small is stored s = (
-  ((has_cell old word tag c at tags, small), is ∙ sym (ap (λ (found : Option Cell). reply.Value (value_at found)) at)),
+makes_swap old new b word first last value i c said index at tags small is stored s = (
+  ((has_cell old word first last c at tags, small), is ∙ sym (ap (λ (found : Option Cell). reply.Value (value_at found)) at)),
   stored ∙ ap (λ (j : ℕ). with_value (shown old) j value) index,
   s,
 )

@@ -6,13 +6,13 @@ ghost use Rattle.plain_table.specs.declared.events.Space.TheVariants.{External, 
 ghost use Rattle.plain_table.specs.Index.{index_of};
 ghost use Rattle.plain_table.specs.Places.{put_entry};
 ghost use Rattle.plain_table.specs.Finish.{id_at};
-ghost use Rattle.plain_table.specs.Rows.{IsSharedBind, HasCell, MayFill, free_below, look, row, with_taken, with_value};
+ghost use Rattle.plain_table.specs.Rows.{IsSharedBind, HasCell, MayFill, free_below, is_asked, look, row, with_taken, with_value};
 ghost use Rattle.plain_table.specs.History.{IsLegal};
 ghost use Rattle.plain_table.specs.Shapes.{event};
 ghost use Rattle.plain_program.specs.Kept.{shown};
 ghost use Rattle.plain_program.specs.Steps.{Steps};
 
-use crate::numbers::{VALUE_END, index_of, is_external, is_tag, object_of, space_of};
+use crate::numbers::{VALUE_END, index_of, is_asked, is_external, is_tag, object_of, space_of};
 use crate::state::State;
 use crate::{Cell, Field, OutOfMemory, Reply, Space};
 
@@ -196,13 +196,14 @@ impl State {
         &mut self,
         by: u32,
         word: u32,
-        tag: u8,
+        first: u8,
+        last: u8,
         value: u64,
         said: Reply,
     ) -> Result<bool, OutOfMemory>
-        ensures { IfOk result (λ told. Steps told self.old self.new (event by (act.Set word tag value) said)) }
+        ensures { IfOk result (λ told. Steps told self.old self.new (event by (act.Set word first last value) said)) }
     {
-        let Some(cell) = self.cell_under(word, tag) else {
+        let Some(cell) = self.cell_under(word, first, last) else {
             return Ok(false);
         };
         if value >= VALUE_END || said != Reply::Ok {
@@ -216,13 +217,14 @@ impl State {
         &mut self,
         by: u32,
         word: u32,
-        tag: u8,
+        first: u8,
+        last: u8,
         value: u64,
         said: Reply,
     ) -> Result<bool, OutOfMemory>
-        ensures { IfOk result (λ told. Steps told self.old self.new (event by (act.Swap word tag value) said)) }
+        ensures { IfOk result (λ told. Steps told self.old self.new (event by (act.Swap word first last value) said)) }
     {
-        let Some(cell) = self.cell_under(word, tag) else {
+        let Some(cell) = self.cell_under(word, first, last) else {
             return Ok(false);
         };
         if value >= VALUE_END || said != Reply::Value(cell.value) {
@@ -294,15 +296,15 @@ impl State {
         self.holds(by, object_of(field)) && said == Reply::Word(self.word(field))
     }
 
-    pub(crate) fn look(&self, space: Space, word: u32, tag: u8) -> Reply
-        ensures { result ≡ look (shown self.now) space word tag }
+    pub(crate) fn look(&self, space: Space, word: u32, first: u8, last: u8) -> Reply
+        ensures { result ≡ look (shown self.now) space word first last }
     {
         let index = index_of(word);
         if index == 0 {
             return Reply::Null;
         }
         match self.cell(space, index) {
-            Some(cell) if cell.shown && cell.tag == tag => Reply::Value(cell.value),
+            Some(cell) if cell.shown && is_asked(first, last, cell.tag) => Reply::Value(cell.value),
             _ => Reply::Fault,
         }
     }
@@ -348,13 +350,13 @@ impl State {
         }
     }
 
-    /// The cell at the index that a word of the external space names, if it has the tag.
-    fn cell_under(&self, word: u32, tag: u8) -> Option<Cell>
-        ensures some { IfSome result (λ cell. ((shown self.now).cells External (index_of word) ≡ Some cell) × (cell.tag ≡ tag)) }
-        ensures none { IfNone result (HasCell (shown self.now) word tag → ⊥) }
+    /// The cell at the index that a word of the external space names, if its tag is asked.
+    fn cell_under(&self, word: u32, first: u8, last: u8) -> Option<Cell>
+        ensures some { IfSome result (λ cell. ((shown self.now).cells External (index_of word) ≡ Some cell) × IsTrue (is_asked first last cell.tag)) }
+        ensures none { IfNone result (HasCell (shown self.now) word first last → ⊥) }
     {
         match self.cell(Space::External, index_of(word)) {
-            Some(cell) if cell.tag == tag => Some(cell),
+            Some(cell) if is_asked(first, last, cell.tag) => Some(cell),
             _ => None,
         }
     }

@@ -21,8 +21,7 @@ mod steps;
 mod sweeps;
 
 pub use area::area_start;
+use plain_table::{Act, Cell, Event, Field, Limits, OutOfMemory, Policy, Reply, Space, Spot};
 pub use replays::replay;
 pub use state::State;
 pub use steps::step;
-
-use plain_table::{Act, Cell, Event, Field, Limits, OutOfMemory, Policy, Reply, Space, Spot};

@@ -3,7 +3,7 @@ ghost use Rattle.std.specs.Prelude.{◌≡◌, ◌<◌, ◌↔◌, true, IsTrue}
 ghost use Rattle.plain_table.specs.declared.events.Space.TheVariants.{External};
 ghost use Rattle.plain_table.specs.Index.{index_of, word_of};
 ghost use Rattle.plain_table.specs.Places.{same_space, space_of, object_of};
-ghost use Rattle.plain_table.specs.Rows.{IsTag};
+ghost use Rattle.plain_table.specs.Rows.{IsTag, is_asked};
 
 use crate::{Field, Space};
 
@@ -40,11 +40,18 @@ pub fn word_of(index: u32) -> u32
     index << 16
 }
 
-/// The byte has exactly four set bits.
+/// The byte is a tag: it is not 0.
 pub fn is_tag(tag: u8) -> bool
     ensures { IsTrue result ↔ IsTag tag }
 {
-    tag.count_ones() == 4
+    tag != 0
+}
+
+/// The tag lies in the asked range, from its first to its last tag.
+pub fn is_asked(first: u8, last: u8, tag: u8) -> bool
+    ensures { result ≡ is_asked first last tag }
+{
+    first <= tag && tag <= last
 }
 
 /// The space is the external one.

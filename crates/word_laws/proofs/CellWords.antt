@@ -137,13 +137,13 @@ CellWords-row : (words : List ℕ) (s : Table) (b : ℕ) (a : Act) (p : Space) (
 CellWords-row words s b (Put q j tag value) p i cell h shows legal (space, index) =
     subst₂ (CellFollows words s (row s b (Put q j tag value)).next cell) space index
     (λ stands. Shows-cell words s q j cell s.cycle _ _ _ _ _ h (IsFillable-owed s b q j h legal.0) (put_entry-changed s.cells q j _) stands shows)
-CellWords-row words s b (Set word tag value) p i cell h shows legal (space, index) =
-    subst₂ (CellFollows words s (row s b (Set word tag value)).next cell) space index
+CellWords-row words s b (Set word first last value) p i cell h shows legal (space, index) =
+    subst₂ (CellFollows words s (row s b (Set word first last value)).next cell) space index
     (λ stands. Shows-cell words s External (index_of word) cell s.cycle _ _ _ _ _ h
     (IsFillable-filled s External (index_of word) h (id_at-some (s.cells External (index_of word)) _ legal.0))
     (put_entry-changed s.cells External (index_of word) _) stands shows)
-CellWords-row words s b (Swap word tag value) p i cell h shows legal (space, index) =
-    subst₂ (CellFollows words s (row s b (Swap word tag value)).next cell) space index
+CellWords-row words s b (Swap word first last value) p i cell h shows legal (space, index) =
+    subst₂ (CellFollows words s (row s b (Swap word first last value)).next cell) space index
     (λ stands. Shows-cell words s External (index_of word) cell s.cycle _ _ _ _ _ h
     (IsFillable-filled s External (index_of word) h (id_at-some (s.cells External (index_of word)) _ legal.0))
     (put_entry-changed s.cells External (index_of word) _) stands shows)

@@ -48,7 +48,7 @@ module _ (words : List ℕ) (s : Table) (shows : Shows words s) where
   WordsStay-row b (Below start) said is full = Shows-no_room b said (free_below s start) is full
   WordsStay-row b (Bind f w) said is taken = Shows-taken b f w taken.0 said (s.words f == 0) is taken.1
   WordsStay-row b (Name f) said is quiet = shows
-  WordsStay-row b (Look p w tag) said is quiet = shows
+  WordsStay-row b (Look p w first last) said is quiet = shows
   WordsStay-row b _ said is wrong = absurd wrong
 
 pub WordsStay-all : WordsStay

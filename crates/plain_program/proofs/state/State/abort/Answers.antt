@@ -1,7 +1,7 @@
 use Rattle.std.proofs.Common.{ap, ◌∙◌}
 use Rattle.plain_program.specs.Kept.{shown}
 use Rattle.plain_table.specs.Cycle.{with_abort}
-use Rattle.plain_table.specs.contracts.state.State.{the_view}
+use Rattle.plain_program.specs.contracts.state.State.{the_view}
 use Rattle.plain_program.proofs.CycleSets.{shown-cycle, shown-no_cycle}
 use Rattle.plain_program.proofs.state.State.abort.Goals as goal
 use Rattle.plain_program.proofs.state.State.abort.Goals.{in-Some, in_default}

@@ -4,5 +4,5 @@ use Rattle.plain_program.proofs.state.State.make_set.Goals as goal
 
 pub returns : goal.returns
 returns c =
-    makes_set c.args.self.now c.store.new.self c.args.by c.args.word c.args.tag c.args.value c.index_of.result c.in-Some.cell c.args.said
+    makes_set c.args.self.now c.store.new.self c.args.by c.args.word c.args.first c.args.last c.args.value c.index_of.result c.in-Some.cell c.args.said
     c.index_of.ensures c.in-Some.ensures.some.0 c.in-Some.ensures.some.1 (search rules) (search rules) c.in_ok-store.ensures.table c.in_ok-store.ensures.spent
