@@ -1,26 +1,33 @@
 -- Words and images at the start of a cycle: they show the started table, and are covered in it.
-use Rattle.std.proofs.Common.{◌≡◌, ◌≢◌, ◌⊎◌, ◌+◌, ◌*◌, ◌/◌, ◌%◌, ◌<◌, ◌≤◌, ℕ, Bool, true, false, List, length, slice_index, Option, Some, None, IsTrue, refl, sym, ap, subst, ◌∙◌, inl, inr, arith, le-leb}
+use Rattle.std.proofs.Common.{◌≡◌, ◌≢◌, ◌⊎◌, ◌+◌, ◌*◌, ◌/◌, ◌%◌, ◌<◌, ℕ, Bool, true, false, List, length, slice_index, Option, Some, None, IsTrue, refl, sym, ap, subst, ◌∙◌, inl, inr, arith}
 use Rattle.std.specs.Prelude.{nat_le, unwrap_or, if◌then◌else◌}
-use Rattle.std.proofs.lemmas.Bool.{cases_lt, cases_Bool, cond-true, cond-false, lt-leb, leb-true}
+use Rattle.std.proofs.lemmas.Bool.{cases_Bool, cond-true, cond-false, lt-leb}
 use Rattle.plain_table.specs.declared.scripts.Policy.{Policy}
-use Rattle.plain_table.specs.declared.events.Space.{Space}
 use Rattle.plain_table.specs.declared.events.Space.TheVariants.{External, Trusted}
-use Rattle.plain_table.specs.declared.events.Field.{Field}
-use Rattle.plain_table.specs.Places.{object_of}
 use Rattle.plain_table.specs.Reachable.{IsRoot, Reaches, By_global, By_variable}
-use Rattle.plain_table.specs.Table.{Table, limit_of}
+use Rattle.plain_table.specs.Table.{Table, Sizes, limit_of}
 use Rattle.plain_table.specs.Finish.{started, area_of}
-use Rattle.plain_table.specs.Words.{object_word, header_word, header_place, field_place, entry_place, global_place, reference_place}
+use Rattle.plain_table.specs.Words.{object_word, phase_word, header_word, header_place, field_place, entry_place}
 use Rattle.plain_table.specs.Sound.{IsSound}
-use Rattle.plain_table.specs.Shows.{Image, Shows, ImageShows, IsShaded, IsScanned, IsCovered, IsHeader, IsHeaderIn, is_black}
+use Rattle.plain_table.specs.Shows.{Image, PendingCell, Shows, SpaceShows, IsShaded, IsScanned, IsCovered, IsHeader}
 use Rattle.plain_table.proofs.WordPlaces.{field_place-below, field_place-from, header-apart-field}
 use Rattle.sweeper.specs.Small.{AreSmall}
 use Rattle.sweeper.specs.Begin.{first_header, without_bit, IsOpened}
-use Rattle.sweeper.specs.Roots.{is_held, holds_global, holds_variable, AreHeld}
+use Rattle.sweeper.specs.Roots.{is_held, AreHeld}
+use Rattle.std.specs.List.{Contains}
+use Rattle.plain_table.specs.Cycle.{Cycle}
+use Rattle.sweeper.specs.declared.area.Area.{Area}
+use Rattle.sweeper.specs.declared.sweeps.Shape.{Shape}
+use Rattle.sweeper.specs.Begin.{Begins}
+use Rattle.sweeper.specs.Roots.{members_below}
+use Rattle.sweeper.specs.Usage.{DecidesArea}
+use Rattle.sweeper.specs.Whole.{sizes_of, IsSmallShape}
+use Rattle.sweeper.proofs.HeldRoots.{member-if, member-of, members-ascend}
+use Rattle.sweeper.proofs.SweptImages.{AreSmall-shape}
 use Rattle.sweeper.proofs.Started.{SpaceShows-started}
 
 -- an object word names its object
-object_word-is : (found : Option ℕ) (o : ℕ) → object_word found ≡ o + 1 → found ≡ Some o
+pub object_word-is : (found : Option ℕ) (o : ℕ) → object_word found ≡ o + 1 → found ≡ Some o
 object_word-is None o e = let bad : 0 ≡ o + 1 = e in absurd (omega (arith, bad))
 object_word-is (Some q) o e = let same : q + 1 ≡ o + 1 = e in ap Some (omega (arith, same))
 
@@ -156,3 +163,54 @@ module _ (s : Table) (h : IsSound s) (none : s.cycle ≡ None) (small : AreSmall
             let white : slice_index now (header_place o) ≡ 0 = header-is o few ∙ cond-false (nat_le s.count o) 3 (if is_held held o then 1 else 0) made ∙ ap (λ (b : Bool). if b then 1 else 0) is in
             let bad : 0 ≡ 1 = ap (λ w. w % 2) (sym white) ∙ shaded in
             absurd (omega (arith, bad))
+
+-- an image whose words are those of the start of a cycle
+module _ (shape : Shape) (words opened vars : List ℕ) (pending : List (Option PendingCell)) (held : List Bool) (policy : Policy) (area : Area)
+    (small : IsSmallShape shape) (are : AreHeld held words vars shape.objects) (lists : area.roots.items ≡ members_below (is_held held) (length held))
+    (decides : DecidesArea words (sizes_of shape) policy area.start) (opens : IsOpened words opened held (shape.seg * shape.ext + shape.seg * shape.tru) area.start) where
+  abbrev old : Image
+  old = record { sizes = sizes_of shape; words = words; variables = vars; pending = pending }
+
+  abbrev now : Image
+  now = record { sizes = sizes_of shape; words = opened; variables = vars; pending = pending }
+
+  pub IsBegun-parts : Begins old now policy area
+  IsBegun-parts s h none shows = record {
+    shows = record { sizes = shows.sizes; words = Shows-started s h none few policy words opened held area.start shows.words long begins opened_is; variables = shows.variables; pending = shows.pending };
+    covered = IsCovered-started s h none few policy words opened held area.start shows.words long begins opened_is vars shows.variables.0 shows.variables.1 are_held;
+    start = begins;
+    listed = λ o. (
+      λ there. root-held s h none few policy words opened held area.start shows.words long begins opened_is vars shows.variables.0 shows.variables.1 are_held o
+          (member-if (is_held held) (length held) o (subst (λ (xs : List ℕ). Contains xs o) lists there)).1,
+      λ root.
+          let is = held-root s h none few policy words opened held area.start shows.words long begins opened_is vars shows.variables.0 shows.variables.1 are_held o root in
+          subst (λ (xs : List ℕ). Contains xs o) (sym lists) (member-of (is_held held) (length held) o (omega (arith, is.0, long)) is.1),
+    );
+    ascending = λ i j order less.
+        subst (λ (xs : List ℕ). slice_index xs i < slice_index xs j) (sym lists)
+        (members-ascend (is_held held) (length held) i j order (subst (λ (xs : List ℕ). j < length xs) lists less));
+    shaded = shaded-root s h none few policy words opened held area.start shows.words long begins opened_is vars shows.variables.0 shows.variables.1 are_held;
+  }
+    where
+      few : AreSmall s
+      few = AreSmall-shape shape s small shows.sizes
+
+      long : length held ≡ s.sizes.objects
+      long = are.long ∙ ap (λ (z : Sizes). z.objects) (sym shows.sizes)
+
+      begins : area.start ≡ area_of s policy
+      begins = decides s (record { sound = h; none = none; small = few; same = shows.sizes; shows = shows.words })
+
+      opened_is : IsOpened words opened held (s.sizes.seg * s.sizes.ext + s.sizes.seg * s.sizes.tru) area.start
+      opened_is = subst (λ (z : Sizes). IsOpened words opened held (z.seg * z.ext + z.seg * z.tru) area.start) (sym shows.sizes) opens
+
+      are_held : AreHeld held words vars s.sizes.objects
+      are_held = subst (λ (z : Sizes). AreHeld held words vars z.objects) (sym shows.sizes) are
+
+-- a table whose phase word is 0 is outside a cycle
+pub cycle-none : (words : List ℕ) (s : Table) → Shows words s → slice_index words 4 ≡ 0 → s.cycle ≡ None
+cycle-none words s shows zero = by s.cycle refl
+  where
+    by : (cycle : Option Cycle) → s.cycle ≡ cycle → s.cycle ≡ None
+    by None is = is
+    by (Some c) is = let bad : 0 ≡ 1 = sym zero ∙ shows.phase ∙ ap phase_word is in absurd (omega (arith, bad))

@@ -1,7 +1,7 @@
 -- The objects that words hold, one word after the other; and the ascending list of those that are held.
 use Rattle.std.proofs.Common.{◌≡◌, ◌⊎◌, ◌+◌, ◌-◌, ◌<◌, ◌≤◌, ℕ, zero, suc, Bool, true, false, List, [], ◌∷◌, ◌++◌, length, slice_index, slice_set, IsTrue, refl, sym, ap, subst, ◌∙◌, inl, inr, arith, le-leb, get_or-set_same, get_or-set_other, length-set}
-use Rattle.std.specs.Prelude.{nat_le, ◌&&◌, slice_index_or, if◌then◌else◌}
-use Rattle.std.proofs.lemmas.Bool.{cases_lt, cases_Bool, cond-true, cond-false, and_from, and_left, and_right, lt-leb, and_parts, leb-true}
+use Rattle.std.specs.Prelude.{nat_le, ◌&&◌}
+use Rattle.std.proofs.lemmas.Bool.{cases_lt, cases_Bool, cond-true, cond-false, and_from, and_parts, leb-true}
 use Rattle.std.proofs.lemmas.Bool.Decides.{eqb_tells}
 use Rattle.std.specs.List.{Contains}
 use Rattle.std.proofs.lemmas.List.{get_or_append_left, length_push}
@@ -79,14 +79,14 @@ IsHeldMore-range old mid now word n is h =
 module _ (set : ℕ → Bool) where
   pub member-if : (n o : ℕ) → Contains (members_below set n) o → (o < n) × (set o ≡ true)
   member-if zero o there = absurd (not_in_nil o there)
-  member-if (suc n) o there = by (cases_Bool (set n))
+  member-if (suc n) o there = by (cases_Bool (set n)) (member-if n o)
     where
-      by : (set n ≡ true) ⊎ (set n ≡ false) → (o < suc n) × (set o ≡ true)
-      by (inl is) = elim (Contains-push_cases (members_below set n) n o (subst (λ xs. Contains xs o) (cond-true (set n) (members_below set n ++ n ∷ []) (members_below set n) is) there)) [
-        | inl before ↦ let k = member-if n o before in (omega (arith, k.0), k.1)
+      by : (set n ≡ true) ⊎ (set n ≡ false) → (Contains (members_below set n) o → (o < n) × (set o ≡ true)) → (o < suc n) × (set o ≡ true)
+      by (inl is) inner = elim (Contains-push_cases (members_below set n) n o (subst (λ xs. Contains xs o) (cond-true (set n) (members_below set n ++ n ∷ []) (members_below set n) is) there)) [
+        | inl before ↦ let k = inner before in (omega (arith, k.0), k.1)
         | inr e ↦ (omega (arith, e), ap set (sym e) ∙ is)
       ]
-      by (inr is) = let k = member-if n o (subst (λ xs. Contains xs o) (cond-false (set n) (members_below set n ++ n ∷ []) (members_below set n) is) there) in (omega (arith, k.0), k.1)
+      by (inr is) inner = let k = inner (subst (λ xs. Contains xs o) (cond-false (set n) (members_below set n ++ n ∷ []) (members_below set n) is) there) in (omega (arith, k.0), k.1)
 
   pub member-of : (n o : ℕ) → o < n → set o ≡ true → Contains (members_below set n) o
   member-of zero o less is = absurd (omega (arith, less))
@@ -98,8 +98,8 @@ module _ (set : ℕ → Bool) where
   ]
     where
       by : (set n ≡ true) ⊎ (set n ≡ false) → Contains (members_below set n) o → Contains (members_below set (suc n)) o
-      by (inl yes) there = subst (λ xs. Contains xs o) (sym (cond-true (set n) (members_below set n ++ n ∷ []) (members_below set n) yes)) (Contains-append_left (members_below set n) (n ∷ []) o there)
-      by (inr no) there = subst (λ xs. Contains xs o) (sym (cond-false (set n) (members_below set n ++ n ∷ []) (members_below set n) no)) there
+      by (inl here) there = subst (λ xs. Contains xs o) (sym (cond-true (set n) (members_below set n ++ n ∷ []) (members_below set n) here)) (Contains-append_left (members_below set n) (n ∷ []) o there)
+      by (inr none) there = subst (λ xs. Contains xs o) (sym (cond-false (set n) (members_below set n ++ n ∷ []) (members_below set n) none)) there
 
   pub member-below : (n i : ℕ) → i < length (members_below set n) → slice_index (members_below set n) i < n
   member-below n i less = (member-if n (slice_index (members_below set n) i) (Contains-get_or (members_below set n) i 0 less)).0
@@ -109,14 +109,14 @@ module _ (set : ℕ → Bool) where
     where
       none : j < 0 → ⊥
       none bad = omega (arith, bad)
-  members-ascend (suc n) i j order less = by (cases_Bool (set n))
+  members-ascend (suc n) i j order less = by (cases_Bool (set n)) (members-ascend n i j order)
     where
       Ascends : List ℕ → Type 0
       Ascends xs = j < length xs → slice_index xs i < slice_index xs j
 
-      by : (set n ≡ true) ⊎ (set n ≡ false) → slice_index (members_below set (suc n)) i < slice_index (members_below set (suc n)) j
-      by (inr no) = subst Ascends (sym (cond-false (set n) (members_below set n ++ n ∷ []) (members_below set n) no)) (members-ascend n i j order) less
-      by (inl yes) = subst Ascends (sym (cond-true (set n) (members_below set n ++ n ∷ []) (members_below set n) yes)) more less
+      by : (set n ≡ true) ⊎ (set n ≡ false) → Ascends (members_below set n) → slice_index (members_below set (suc n)) i < slice_index (members_below set (suc n)) j
+      by (inr none) inner = subst Ascends (sym (cond-false (set n) (members_below set n ++ n ∷ []) (members_below set n) none)) inner less
+      by (inl here) inner = subst Ascends (sym (cond-true (set n) (members_below set n ++ n ∷ []) (members_below set n) here)) more less
         where
           xs : List ℕ
           xs = members_below set n
@@ -126,7 +126,7 @@ module _ (set : ℕ → Bool) where
             | inl below ↦
                 let first = get_or_append_left xs (n ∷ []) 0 i (omega (arith, order, below)) in
                 let second = get_or_append_left xs (n ∷ []) 0 j below in
-                let before = members-ascend n i j order below in
+                let before = inner below in
                 omega (arith, first, second, before)
             | inr past ↦
                 let last : j ≡ length xs = omega (arith, past, inside, length_push xs n) in

@@ -1,5 +1,5 @@
 -- The start of a cycle on an image.
-use Rattle.std.specs.Prelude.{◌≡◌, ◌≢◌, ◌⊎◌, ◌↔◌, ℕ, ◌+◌, ◌-◌, ◌*◌, ◌^◌, ◌<◌, ◌≤◌, nat_le, Bool, if◌then◌else◌, List, length, slice_index, Option, None, unwrap_or}
+use Rattle.std.specs.Prelude.{◌≡◌, ◌≢◌, ◌⊎◌, ◌↔◌, ℕ, ◌+◌, ◌-◌, ◌^◌, ◌<◌, ◌≤◌, nat_le, Bool, if◌then◌else◌, List, length, slice_index, Option, None, unwrap_or}
 use Rattle.std.specs.List.{Contains}
 use Rattle.plain_table.specs.declared.scripts.Policy.{Policy}
 use Rattle.plain_table.specs.Reachable.{IsRoot}
@@ -57,4 +57,4 @@ Begins old now policy area = (s : Table) → IsSound s → s.cycle ≡ None → 
 
 -- there is room to list that many objects
 abbrev pub HasRoom : Area → ℕ → Type 0
-HasRoom area objects = objects ≤ length area.work.items
+HasRoom area objects = length area.work.items ≡ objects

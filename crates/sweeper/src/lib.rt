@@ -8,15 +8,20 @@
 
 mod area;
 mod begins;
+mod evacuation;
 mod images;
+mod late;
+mod marking;
 mod marks;
 mod moves;
 mod pass;
 mod roots;
+mod shading;
 mod sweeps;
 mod usage;
 
 pub use area::Area;
 pub use begins::begin;
 pub use images::{Image, Pending, sweep};
+pub use late::late_mark;
 pub use sweeps::Shape;

@@ -74,7 +74,7 @@ fn compaction(area: u64) -> Compaction
 }
 
 /// Where the area begins whose cells move, by the area word.
-fn moving(area: u64) -> Option<u64>
+pub(crate) fn moving(area: u64) -> Option<u64>
     ensures { result ≡ moving_of area }
 {
     if area == 0 || area >= 1 << 32 {

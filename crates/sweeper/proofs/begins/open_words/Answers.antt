@@ -1,6 +1,4 @@
-use Rattle.std.proofs.Common.{◌≡◌, ◌+◌, ◌*◌, ◌<◌, ◌≤◌, length, slice_index, slice_set, ap, ◌∙◌, sym, inl, inr, arith, get_or-set_same, get_or-set_other, length-set}
-use Rattle.sweeper.specs.Begin.{first_header, without_bit}
-use Rattle.sweeper.specs.Roots.{is_held}
+use Rattle.std.proofs.Common.{◌≡◌, ◌+◌, ◌*◌, length, slice_set, ◌∙◌, inl, arith, get_or-set_same, get_or-set_other, length-set}
 use Rattle.sweeper.proofs.begins.open_words.Goals as goal
 
 pub returns : goal.returns

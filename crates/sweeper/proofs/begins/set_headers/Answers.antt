@@ -1,6 +1,5 @@
-use Rattle.std.proofs.Common.{◌≡◌, ◌+◌, ◌*◌, ◌<◌, ◌≤◌, length, slice_index, slice_set, ap, ◌∙◌, sym, inl, inr, arith, get_or-set_same, get_or-set_other, false}
+use Rattle.std.proofs.Common.{◌+◌, ◌*◌, ◌<◌, length, slice_index, slice_set, ap, ◌∙◌, sym, inl, inr, arith, get_or-set_same, get_or-set_other}
 use Rattle.std.proofs.lemmas.Bool.Decides.{eqb_tells}
-use Rattle.std.proofs.lemmas.List.{get_or_default}
 use Rattle.sweeper.specs.Begin.{first_header}
 use Rattle.sweeper.specs.Roots.{is_held}
 use Rattle.sweeper.proofs.begins.set_headers.Goals as goal
@@ -18,4 +17,13 @@ loop-object-preserved c =
         | inr apart ↦ get_or-set_other words (32 + 8 * n) (32 + 8 * o) w 0 (λ eq. apart.1 (omega (arith, eq))) ∙ c.loop-object.invariant.headers o (omega (arith, less, apart.1))
       ];
       rest = λ place off. get_or-set_other words (32 + 8 * n) place w 0 (off n (omega arith)) ∙ c.loop-object.invariant.rest place (λ o less. off o (omega (arith, less)));
+    }
+
+pub returns : goal.returns
+returns c =
+    let end = c.loop-object-test.false in
+    record {
+      long = c.loop-object.auto.words;
+      headers = λ o less. c.loop-object.invariant.headers o (omega (arith, less, end));
+      rest = λ place off. c.loop-object.invariant.rest place (λ o less. off o (omega (arith, less, c.loop-object.auto.object-end)));
     }
