@@ -1,19 +1,22 @@
 -- What the four seats of a run know together, when they were joined.
-use Rattle.std.proofs.Common.{◌≡◌, ℕ, zero, suc, ◌+◌, ◌*◌, ◌-◌, ◌^◌, ◌%◌, ◌/◌, ◌≤◌, ◌<◌, ◌==◌, nat_lt, Bool, true, false, if◌then◌else◌, [], ◌∷◌, ◌++◌, length, get_or, refl, sym, ap, ◌∙◌, subst, arith, ⊎_elim, length-append}
+use Rattle.std.proofs.Common.{◌≡◌, ℕ, zero, suc, ◌+◌, ◌*◌, ◌-◌, ◌^◌, ◌%◌, ◌/◌, ◌≤◌, ◌<◌, ◌==◌, nat_lt, Bool, true, false, if◌then◌else◌, [], ◌∷◌, ◌++◌, length, get_or, refl, sym, ap, ◌∙◌, subst, arith, ⊎_elim, length-append, append_assoc, append-nil}
 use Rattle.std.proofs.lemmas.Bool.{cases_lt}
 use Rattle.std.proofs.lemmas.Bool.Decides.{nat_tests}
 use Rattle.code_steps.specs.declared.view.View.{View}
 use Rattle.code_steps.specs.declared.view.Store.{Store}
 use Rattle.code_steps.specs.Lists.{Pair, StartsWith, Each, total, list_at, in_turn, all_stores, IsSeenStore, EndsWith}
 use Rattle.code_steps.specs.Views.{giver, both, IsWhole, OwnsSeen}
+use Rattle.code_steps.specs.Calls.{shown_by_write, shown_by_read}
 use Rattle.code_steps.proofs.Totals.{total_append}
 use Rattle.code_steps.proofs.Prefixes.{starts_trans, starts_read, each_map, of_both_at, of_both_long}
 use Rattle.code_run.specs.declared.workers.WriteCounts.{WriteCounts}
 use Rattle.code_run.specs.declared.workers.ReadCounts.{ReadCounts}
 use Rattle.code_run.specs.declared.run.CodeReport.{CodeReport}
+use Rattle.code_run.specs.Calls.{is_bad, Answers, Answered, Counts, shown_at, shown_in_run, stores_of, AllStandIn}
 use Rattle.code_run.specs.Runs.{opening_lists, IsOpen, IsStoreOf, IsStoreOfRun, of_code, Ran}
-use Rattle.code_run.specs.Workers.{of_entry, moved, is_last, is_bad, marks, WroteCalls, ReadCalls}
+use Rattle.code_run.specs.Workers.{of_entry, moved, is_last, marks, WroteCalls, ReadCalls}
 use Rattle.code_run.proofs.Calls.{other_code}
+use Rattle.code_run.proofs.Answered.{all_stay}
 use Rattle.code_run.proofs.Sums.{all_total, total_at, total_both, total_each_starts, total_ones, total_lengths, total_none, total_all_none, each_of_none, all_count, all_pairs}
 
 -- one join
@@ -23,6 +26,9 @@ module _ (v u w : View) (is : w ≡ both v u) (same : length v.shown ≡ length 
 
   shown_joined : (f : ℕ → ℕ) → all_total f w.shown ≡ all_total f v.shown + all_total f u.shown
   shown_joined f = ap (λ (x : View). all_total f x.shown) is ∙ total_both f v.shown u.shown same
+
+  shown_joined_at : (i : ℕ) → list_at w.shown i ≡ list_at v.shown i ++ list_at u.shown i
+  shown_joined_at i = ap (λ (x : View). list_at x.shown i) is ∙ of_both_at in_turn v.shown u.shown i refl same
 
   lengths_joined : total length w.shown ≡ total length v.shown + total length u.shown
   lengths_joined = let a = shown_joined (λ _. 1) in let b = total_lengths w.shown in let c = total_lengths v.shown in let d = total_lengths u.shown in omega arith
@@ -88,7 +94,7 @@ opening_at (suc (suc (suc (suc i)))) low = absurd (omega arith)
 
 module _ (old s a b c d t1 t2 t3 w xa xb xc xd : View) (n : ℕ) (wa wb : WriteCounts) (rc rd : ReadCounts) (most : n ≤ 1000) (opened : IsOpen old) (is_s : s ≡ giver (giver (giver (giver old))))
     (A : WroteCalls xa 0 n a wa) (B : WroteCalls xb 1 n b wb) (C : ReadCalls xc n c rc) (D : ReadCalls xd n d rd)
-    (parts_before : (xa.parts ≡ 1) × (xb.parts ≡ 1) × (xc.parts ≡ 1) × (xd.parts ≡ 1))
+    (parts_before : (xa.parts ≡ 1) × (xb.parts ≡ 1) × (xc.parts ≡ 1) × (xd.parts ≡ 1)) (start_c : xc.start ≡ 0) (start_d : xd.start ≡ 0)
     (is1 : t1 ≡ both s a) (is2 : t2 ≡ both t1 b) (is3 : t3 ≡ both t2 c) (is4 : w ≡ both t3 d)
     (b1 : (i : ℕ) → StartsWith (list_at t1.seen i) (list_at s.seen i) × StartsWith (list_at t1.seen i) (list_at a.seen i))
     (b2 : (i : ℕ) → StartsWith (list_at t2.seen i) (list_at t1.seen i) × StartsWith (list_at t2.seen i) (list_at b.seen i))
@@ -273,8 +279,64 @@ module _ (old s a b c d t1 t2 t3 w xa xb xc xd : View) (n : ℕ) (wa wb : WriteC
       let mc = C.made in let md = D.made in
       omega arith
 
-  pub ran : Ran old n report w
-  ran = record {
+  abbrev answers : Answers
+  answers = record { first = A.answers; second = B.answers; third = C.answers; fourth = D.answers }
+
+  answered : Answered n answers
+  answered = record { writes = (A.calls, B.calls); reads = (C.calls, D.calls); write_causes = (A.causes, B.causes); read_causes = (C.causes, D.causes) }
+
+  counted : Counts answers report
+  counted = let ca = A.counts in let cb = B.counts in let cc' = C.counts in let cd = D.counts in record {
+    done = omega arith;
+    busy = omega arith;
+    pairs = omega arith;
+    again = omega arith;
+    bad = omega arith;
+  }
+
+  -- what each seat was shown, in the order in which they were joined
+  shown_each : (i : ℕ) → list_at w.shown i ≡ list_at old.shown i ++ shown_in_run i answers
+  shown_each i =
+      let xs = shown_at shown_by_write i A.answers in
+      let ys = shown_at shown_by_write i B.answers in
+      let zs = shown_at shown_by_read i C.answers in
+      let us = shown_at shown_by_read i D.answers in
+      let e0 : list_at s.shown i ≡ list_at old.shown i = ap (λ (x : View). list_at x.shown i) is_s in
+      let e1 : list_at t1.shown i ≡ list_at old.shown i ++ xs = shown_joined_at s a t1 is1 (shown_s ∙ sym shown_a) i ∙ (λ j. e0 j ++ A.showed i j) in
+      let e2 : list_at t2.shown i ≡ (list_at old.shown i ++ xs) ++ ys = shown_joined_at t1 b t2 is2 (shown_1 ∙ sym shown_b) i ∙ (λ j. e1 j ++ B.showed i j) in
+      let e3 : list_at t3.shown i ≡ ((list_at old.shown i ++ xs) ++ ys) ++ zs = shown_joined_at t2 c t3 is3 (shown_2 ∙ sym shown_c) i ∙ (λ j. e2 j ++ C.showed i j) in
+      let e4 : list_at w.shown i ≡ (((list_at old.shown i ++ xs) ++ ys) ++ zs) ++ us = shown_joined_at t3 d w is4 (shown_3 ∙ sym shown_d) i ∙ (λ j. e3 j ++ D.showed i j) in
+      e4
+      ∙ (append_assoc ((list_at old.shown i ++ xs) ++ ys) zs us
+      ∙ (ap (λ l. l ++ (zs ++ us)) (append_assoc (list_at old.shown i) xs ys)
+      ∙ append_assoc (list_at old.shown i) (xs ++ ys) (zs ++ us)))
+
+  own_each : w.own ≡ stores_of 0 A.answers ++ stores_of 1 B.answers
+  own_each =
+      let e0 : s.own ≡ [] = ap (λ (x : View). x.own) is_s ∙ opened.own in
+      let e1 : t1.own ≡ stores_of 0 A.answers = ap (λ (x : View). x.own) is1 ∙ (λ j. e0 j ++ A.stored j) in
+      let e2 : t2.own ≡ stores_of 0 A.answers ++ stores_of 1 B.answers = ap (λ (x : View). x.own) is2 ∙ (λ j. e1 j ++ B.stored j) in
+      let e3 : t3.own ≡ stores_of 0 A.answers ++ stores_of 1 B.answers = ap (λ (x : View). x.own) is3 ∙ ((λ j. e2 j ++ C.own j) ∙ append-nil (stores_of 0 A.answers ++ stores_of 1 B.answers)) in
+      ap (λ (x : View). x.own) is4 ∙ ((λ j. e3 j ++ D.own j) ∙ append-nil (stores_of 0 A.answers ++ stores_of 1 B.answers))
+
+  read_each : AllStandIn w C.answers × AllStandIn w D.answers
+  read_each = (
+    all_stay c w C.answers (start ∙ sym (start_of xc c C.start start_c)) (λ i. starts_trans (list_at w.seen i) (list_at t3.seen i) (list_at c.seen i) (b4 i).0 (b3 i).1) C.stand,
+    all_stay d w D.answers (start ∙ sym (start_of xd d D.start start_d)) (λ i. (b4 i).1) D.stand,
+  )
+    where
+      start_of : (x y : View) → y.start ≡ x.start → x.start ≡ 0 → y.start ≡ 0
+      start_of x y is opening = is ∙ opening
+
+  ran_report : Ran old n report w
+  ran_report = record {
+    answers = answers;
+    answered = answered;
+    counts = counted;
+    shown = shown_each;
+    own = own_each;
+    whole = all;
+    read = read_each;
     parts = all_parts;
     writes = let e = none_spent in let f = A.made in let g = B.made in omega arith;
     reads = let f = C.made in let g = D.made in omega arith;
@@ -284,5 +346,11 @@ module _ (old s a b c d t1 t2 t3 w xa xb xc xd : View) (n : ℕ) (wa wb : WriteC
     stores = of_both_writers;
     once = once;
     each = each;
-    shown = showed;
+    least = showed;
   }
+
+  -- of each report that has these counts
+  pub ran : (r : CodeReport) → r.done ≡ wa.done + wb.done → r.busy ≡ wa.busy + wb.busy → r.pairs ≡ rc.pairs + rd.pairs → r.again ≡ rc.again + rd.again → r.bad ≡ rc.bad + rd.bad → Ran old n r w
+  ran r done busy pairs again bad =
+      let same : report ≡ r = (λ i. record { done = sym done i; busy = sym busy i; pairs = sym pairs i; again = sym again i; bad = sym bad i }) in
+      subst (λ (x : CodeReport). Ran old n x w) same ran_report

@@ -1,4 +1,5 @@
 pub mod Sums
+pub mod Answered
 pub mod Calls
 pub mod Finish
 pub mod Fresh

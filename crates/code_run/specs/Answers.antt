@@ -10,9 +10,12 @@ pub record IsCallsWord (words : List (List ℕ)) (n : ℕ) : Type 0 where
   pub high : n ≤ 1000
   pub word : words ≡ decimal n ∷ []
 
--- how many calls were made, and how many pairs were not those of one write
+-- the line of so many calls, and of so many pairs that are not those of one write
+abbrev pub line : ℕ → ℕ → List ℕ
+line calls bad = (((codes "code calls=" ++ decimal calls) ++ codes " bad=") ++ decimal bad) ++ codes "\n"
+
 abbrev pub line_of : CodeReport → List ℕ
-line_of r = (((codes "code calls=" ++ decimal ((r.done + r.busy) + (r.pairs + r.again))) ++ codes " bad=") ++ decimal r.bad) ++ codes "\n"
+line_of r = line ((r.done + r.busy) + (r.pairs + r.again)) r.bad
 
 abbrev pub status_code : CodeStatus → ℕ
 status_code Ok = 0

@@ -1,13 +1,11 @@
--- What a run of two writers and two readers tells: what stands in the lists behind it, and what its steps showed.
-use Rattle.std.specs.Prelude.{◌≡◌, ℕ, ◌+◌, ◌*◌, ◌%◌, ◌^◌, ◌<◌, ◌≤◌, Bool, ◌==◌, if◌then◌else◌, List, [], ◌∷◌, length}
+-- What a run of two writers and two readers tells: how its calls were answered, what stands in the lists after it, and what its steps showed.
+use Rattle.std.specs.Prelude.{◌≡◌, ℕ, ◌+◌, ◌*◌, ◌%◌, ◌^◌, ◌<◌, ◌≤◌, ◌==◌, if◌then◌else◌, List, [], ◌∷◌, ◌++◌, length}
 use Rattle.code_steps.specs.declared.view.View.{View}
 use Rattle.code_steps.specs.declared.view.Store.{Store}
 use Rattle.code_steps.specs.Lists.{Pair, StartsWith, Each, total, list_at, all_stores}
+use Rattle.code_steps.specs.Views.{IsWhole}
 use Rattle.code_run.specs.declared.run.CodeReport.{CodeReport}
-
--- the entry number of a code is 2^32 more
-abbrev pub is_good : Pair → Bool
-is_good p = p.1 == 2 ^ 32 + p.0
+use Rattle.code_run.specs.Calls.{Answers, Answered, Counts, shown_in_run, stores_of, AllStandIn}
 
 -- the four lists of which each has its opening pair alone
 abbrev pub opening_lists : List (List Pair)
@@ -45,6 +43,17 @@ abbrev pub of_code : ℕ → Store → ℕ
 of_code code x = if x.code == code then 1 else 0
 
 pub record Ran (before : View) (n : ℕ) (r : CodeReport) (after : View) : Type 0 where
+  -- there are answers to n calls of each worker, which the report counts
+  pub answers : Answers
+  pub answered : Answered n answers
+  pub counts : Counts answers r
+  -- what was shown of each entry has grown by exactly what these answers show
+  pub shown : (i : ℕ) → list_at after.shown i ≡ list_at before.shown i ++ shown_in_run i answers
+  -- the stores are those of the writes that were done, each once behind the opening pairs; and each pair that was read stands in its list
+  pub own : after.own ≡ stores_of 0 answers.first ++ stores_of 1 answers.second
+  pub whole : IsWhole after
+  pub read : AllStandIn after answers.third × AllStandIn after answers.fourth
+  -- no write is spent, and no pair is bad
   pub parts : after.parts ≡ 16
   pub writes : r.done + r.busy ≡ 2 * n
   pub reads : r.pairs + r.again ≡ 2 * n
@@ -57,4 +66,4 @@ pub record Ran (before : View) (n : ℕ) (r : CodeReport) (after : View) : Type 
   pub once : (code : ℕ) → total (of_code code) (all_stores 0 0 after.seen) ≤ 1
   -- the list of each entry that a call goes to has grown
   pub each : (i : ℕ) → i < 4 → i < n → 2 ≤ length (list_at after.seen i)
-  pub shown : total length before.shown + 2 * r.done + r.busy + 2 * (r.pairs + r.again) ≤ total length after.shown
+  pub least : total length before.shown + 2 * r.done + r.busy + 2 * (r.pairs + r.again) ≤ total length after.shown

@@ -2,7 +2,8 @@
 //!
 //! `workers.rt` has what one writer and one reader do, `run.rt` has `run_codes`, and `main_call.rt`
 //! has `code_main`, which reads the one argument and writes the counts. `specs/Runs.antt` says what
-//! a run tells: what stands in the lists behind it and what its steps showed.
+//! a run tells: how its calls were answered (`specs/Calls.antt`), what its steps showed, and what
+//! stands in the lists after it.
 #![tactic(auto)]
 
 mod main_call;

@@ -1,10 +1,10 @@
 // The top call: its one argument, the run, and the line that it writes.
-ghost use Rattle.std.specs.Prelude.{◌≡◌, ℕ, ◌+◌, ◌^◌, ◌<◌, ◌≤◌, [], length, map, string_bytes, take, vec_capacity, IfSome, IfNone};
+ghost use Rattle.std.specs.Prelude.{◌≡◌, ◌≢◌, ℕ, ◌+◌, ◌*◌, ◌^◌, ◌<◌, ◌≤◌, [], length, map, string_bytes, take, vec_capacity, IfSome, IfNone};
 ghost use Rattle.code_steps.specs.Seats.{view, IsOf};
 ghost use Rattle.ept_io.specs.Bytes.{Took};
 ghost use Rattle.ept_io.specs.Faults.{Rose};
 ghost use Rattle.code_run.specs.Runs.{IsOpen, Ran};
-ghost use Rattle.code_run.specs.Answers.{IsCallsWord, line_of, status_code};
+ghost use Rattle.code_run.specs.Answers.{IsCallsWord, line, line_of, status_code};
 
 use crate::run::{CodeReport, run_codes};
 use code_steps::{CodeSeat, CodeTable};
@@ -45,7 +45,7 @@ const LINE_ROOM: usize = 64;
 
 /// Makes a run of `n` calls in each of four threads, where the words are the one number `n` from 1
 /// to 1,000 without leading zeros, and writes the line of its counts. The table and the seat are as
-/// `run_codes` asks.
+/// `run_codes` asks. A sink with room for the line gets it whole.
 pub fn code_main<R: Threads + Sync, K: Sink>(
     rt: &R,
     alloc: Global,
@@ -67,6 +67,9 @@ pub fn code_main<R: Threads + Sync, K: Sink>(
         × Ran (view s.old) n report (view s.new)
         × ((k : ℕ) × (k < length (line_of report)) × Took (K.written out.old) (take k (line_of report)) (K.written out.new)) }
     ensures fault_cause { result ≡ CodeStatus.WriteFault → Rose (K.faults out.old) (K.faults out.new) }
+    // A sink with room for the line of 4n calls, of which none is bad, has no fault.
+    ensures room { (n : ℕ) → IsCallsWord (map string_bytes args.now) n → (room : ℕ) → K.has_room out.old room →
+        length (line (4 * n) 0) ≤ room → (result ≢ CodeStatus.WriteFault) × (K.faults out.new ≡ K.faults out.old) }
     // Nothing was run or written.
     ensures unused { (result ≡ CodeStatus.Usage → (view s.new ≡ view s.old) × (K.written out.new ≡ K.written out.old))
         × (result ≡ CodeStatus.OutOfMemory → (view s.new ≡ view s.old) × (K.written out.new ≡ K.written out.old)) }

@@ -29,7 +29,8 @@ pub struct CodeReport {
 /// Two writers make `n` writes each and two readers `n` reads each, in four threads; `n` is from 1
 /// to 1,000. Call `r` of each goes to entry r mod 4, and writer `w` stores code 2r + w with entry
 /// number 2^32 + 2r + w. The table has four entries of the pair 0, 2^32 under sequence 0, in which
-/// nothing was stored yet, and the seat all parts (`IsOpen`). What holds behind it says `Ran`.
+/// nothing was stored yet, and the seat all parts (`IsOpen`). `Ran` says what holds after it: how the
+/// calls were answered, what they showed and stored, and that the report counts the answers.
 pub fn run_codes<R: Threads + Sync>(
     rt: &R,
     table: &CodeTable,

@@ -10,6 +10,9 @@ use std::thread::join;
 /// The room of a sink that takes each line of these tests.
 const ROOM: usize = 64;
 
+/// So many runs are made, at most, until a call meets a write that is under way.
+const MOST_RUNS: u32 = 1_000;
+
 #[test]
 fn a_thousand_calls_of_each(rt: HostRuntime) -> Result<(), Fail> {
     let (table, mut seat) = open_table(rt.alloc())?;
@@ -21,6 +24,21 @@ fn a_thousand_calls_of_each(rt: HostRuntime) -> Result<(), Fail> {
     assert!(rt; report.done + report.busy == 2000);
     assert!(rt; report.pairs + report.again == 2000);
     assert_eq!(rt; report.bad, 0);
+    Ok(())
+}
+
+#[test]
+fn the_workers_of_a_run_meet(rt: HostRuntime) -> Result<(), Fail> {
+    let mut met = false;
+    for _ in 0..MOST_RUNS {
+        let (table, mut seat) = open_table(rt.alloc())?;
+        let report = run_codes(&rt, &table, &mut seat, 1000);
+        if report.busy + report.again > 0 {
+            met = true;
+            break;
+        }
+    }
+    assert!(rt; met, "no call of any run met a write that was under way");
     Ok(())
 }
 

@@ -1,7 +1,8 @@
 // What one writer and one reader do.
 ghost use Rattle.std.specs.Prelude.{◌≡◌, ◌<◌, ◌≤◌, [], length};
 ghost use Rattle.code_steps.specs.Seats.{view, IsOf};
-ghost use Rattle.code_run.specs.Runs.{IsFresh, is_good};
+ghost use Rattle.code_run.specs.Runs.{IsFresh};
+ghost use Rattle.code_run.specs.Calls.{is_good};
 ghost use Rattle.code_run.specs.Workers.{WroteCalls, ReadCalls};
 
 use code_steps::{CodeRead, CodeSeat, CodeTable, Wrote, read, write};

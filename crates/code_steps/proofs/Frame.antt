@@ -55,6 +55,7 @@ frame opening lists longer was now i u c apart k = record {
   told = k.told;
   own = store_stays opening lists longer u.seen u.seen c.grows k.seen (λ j. omega arith) u.own k.own;
   shown = shown_stays was now u.shown up k.shown;
+  earlier = (k.earlier.0 ∙ sym c.count, shown_stays was now u.earlier up k.earlier.1);
   place = let a = c.count in let b = k.place in omega arith;
   low = let a = up u.at in let b = k.low in omega arith;
   read = λ even is. reads even is (same_or_not u.at i);

@@ -6,7 +6,7 @@ use Rattle.atomic_table.specs.Table.{Joins}
 use Rattle.atomic_table.proofs.Lists.{set_else}
 use Rattle.code_steps.specs.declared.view.View.{View}
 use Rattle.code_steps.specs.Lists.{Pair, total, StartsWith, Each, list_at, longer, shorter, in_turn, IsSeenStore}
-use Rattle.code_steps.specs.Views.{both, spent}
+use Rattle.code_steps.specs.Views.{both, spent, known_at}
 use Rattle.code_steps.specs.Seats.{HasPlace}
 use Rattle.code_steps.specs.Rule.{sequence_word, holds_at, Knows, Ruled}
 use Rattle.code_steps.proofs.Totals.{total_set, total_append}
@@ -37,6 +37,10 @@ knows_both opening lists words v u kn ku = record {
       (store_stays opening lists lists v.seen (both v u).seen (λ j. starts_self (list_at lists j)) kn.seen up v.own kn.own)
       (store_stays opening lists lists u.seen (both v u).seen (λ j. starts_self (list_at lists j)) ku.seen up_other u.own ku.own);
   shown = λ i. subst (Each (λ n. n ≤ sequence_word words i)) (sym (shown_both v u same_shown i)) (each_append (λ n. n ≤ sequence_word words i) (list_at v.shown i) (list_at u.shown i) (kn.shown i) (ku.shown i));
+  earlier = (
+    of_both_long in_turn v.earlier u.earlier same_earlier ∙ kn.earlier.0,
+    λ i. subst (Each (λ n. n ≤ sequence_word words i)) (sym (of_both_at in_turn v.earlier u.earlier i refl same_earlier)) (each_append (λ n. n ≤ sequence_word words i) (list_at v.earlier i) (list_at u.earlier i) (kn.earlier.1 i) (ku.earlier.1 i)),
+  );
   place = kn.place;
   low = kn.low;
   read = kn.read;
@@ -48,6 +52,9 @@ knows_both opening lists words v u kn ku = record {
 
     same_shown : length v.shown ≡ length u.shown
     same_shown = kn.sizes.1 ∙ sym ku.sizes.1
+
+    same_earlier : length v.earlier ≡ length u.earlier
+    same_earlier = kn.earlier.0 ∙ sym ku.earlier.0
 
     up : (j : ℕ) → length (list_at v.seen j) ≤ length (list_at (both v u).seen j)
     up j = let a = (longer_long (list_at v.seen j) (list_at u.seen j)).0 in let b = ap length (seen_both v u same j) in omega arith
@@ -88,6 +95,7 @@ both_place words v u p q =
       some = let c = p.some in omega arith;
       sized = let c = p.sized in omega arith;
       shown = b ∙ (p.shown ∙ sym a);
+      earlier = of_both_long in_turn v.earlier u.earlier (p.earlier ∙ (same ∙ sym q.earlier)) ∙ (p.earlier ∙ sym a);
       even = p.even;
       at = let c = p.at in omega arith;
     }
@@ -100,3 +108,16 @@ begins_both v u same told i =
     let t : StartsWith (longer (list_at v.seen i) (list_at u.seen i)) (shorter (list_at v.seen i) (list_at u.seen i)) = subst (StartsWith (longer (list_at v.seen i) (list_at u.seen i))) (told_both v u same i) (subst (λ (l : List Pair). StartsWith l (list_at (both v u).told i)) l (told i)) in
     let r = from_shorter (list_at v.seen i) (list_at u.seen i) t in
     (subst (λ (l : List Pair). StartsWith l (list_at v.seen i)) (sym l) r.0, subst (λ (l : List Pair). StartsWith l (list_at u.seen i)) (sym l) r.1)
+
+-- the joined seat knows what each of the two knew
+pub both_known : (words : ℕ) (v u : View) (i : ℕ) (weight : ℕ → ℕ) → HasPlace words v → HasPlace words u → total weight (known_at (both v u) i) ≡ total weight (known_at v i) + total weight (known_at u i)
+both_known words v u i weight p q =
+    let same : length v.seen ≡ length u.seen = let a = p.sized in let b = q.sized in omega arith in
+    let is_earlier : total weight (list_at (both v u).earlier i) ≡ total weight (list_at v.earlier i ++ list_at u.earlier i) = ap (total weight) (of_both_at in_turn v.earlier u.earlier i refl (p.earlier ∙ (same ∙ sym q.earlier))) in
+    let is_shown : total weight (list_at (both v u).shown i) ≡ total weight (list_at v.shown i ++ list_at u.shown i) = ap (total weight) (shown_both v u (p.shown ∙ (same ∙ sym q.shown)) i) in
+    let a = total_append weight (list_at v.earlier i) (list_at u.earlier i) in
+    let b = total_append weight (list_at v.shown i) (list_at u.shown i) in
+    let c = total_append weight (list_at (both v u).earlier i) (list_at (both v u).shown i) in
+    let d = total_append weight (list_at v.earlier i) (list_at v.shown i) in
+    let e = total_append weight (list_at u.earlier i) (list_at u.shown i) in
+    omega arith

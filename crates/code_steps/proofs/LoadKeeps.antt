@@ -5,6 +5,7 @@ use lib.ListN.{get_elem?}
 use Rattle.atomic_table.specs.Table.{Allows, Me, step}
 use Rattle.code_steps.specs.declared.view.View.{View}
 use Rattle.code_steps.specs.Lists.{Pair, StartsWith, Each, list_at, grown_at, EndsWith}
+use Rattle.code_steps.specs.Views.{known_at}
 use Rattle.code_steps.specs.Rule.{sequence_word, code_word, entry_word, Knows, Kept, Ruled}
 use Rattle.code_steps.specs.Steps.{LoadedSequence, loaded_sequence, loaded_code, loaded_entry}
 use Rattle.code_steps.proofs.Prefixes.{at_each, starts_self, grown_here, grown_else, grown_long, grown_starts, starts_long, starts_trans, each_append}
@@ -17,6 +18,10 @@ pub shown_more : (words : List ℕ) (shown : List (List ℕ)) (i n : ℕ) → i 
 shown_more words shown i n low le all = at_each (λ m. Each (λ x. x ≤ sequence_word words m) (list_at (grown_at shown i (n ∷ [])) m)) i
     (subst (Each (λ x. x ≤ sequence_word words i)) (sym (grown_here shown i (n ∷ []) low)) (each_append (λ x. x ≤ sequence_word words i) (list_at shown i) (n ∷ []) (all i) (le, tt)))
     (λ j ne. subst (Each (λ x. x ≤ sequence_word words j)) (sym (grown_else shown i j (n ∷ []) ne)) (all j))
+
+-- none of the sequences that are known is above the present one
+pub known_below : (opening : ℕ) (lists : List (List Pair)) (words : List ℕ) (v : View) → Knows opening lists words v → (i : ℕ) → Each (λ n. n ≤ sequence_word words i) (known_at v i)
+known_below opening lists words v k i = each_append (λ n. n ≤ sequence_word words i) (list_at v.earlier i) (list_at v.shown i) (k.earlier.1 i) (k.shown i)
 
 -- the list of entry i was seen whole
 pub seen_more : (lists seen : List (List Pair)) (i : ℕ) (more : List Pair) → i < length seen → list_at lists i ≡ list_at seen i ++ more → ((j : ℕ) → StartsWith (list_at lists j) (list_at seen j))
@@ -52,6 +57,7 @@ loads_sequence slots id me i alive free low = allows slots id me (3 * i) (λ n. 
           told = λ j. starts_trans (list_at w.seen j) (list_at v.seen j) (list_at v.told j) (grown_starts v.seen i j more low) (kn.told j);
           own = store_stays k.start k.lists k.lists v.seen w.seen (λ j. starts_self (list_at k.lists j)) kn.seen (λ j. starts_long (list_at w.seen j) (list_at v.seen j) (grown_starts v.seen i j more low)) v.own kn.own;
           shown = shown_more words v.shown i found low_shown (omega arith) kn.shown;
+          earlier = kn.earlier;
           place = low_list;
           low = omega arith;
           read = λ _ _. (refl, refl);
@@ -70,7 +76,7 @@ loads_sequence slots id me i alive free low = allows slots id me (3 * i) (λ n. 
           is = whole ∙ (s.ends.is ∙ (λ x. s.ends.before ++ (is_code x, is_entry x) ∷ []));
           place = let a = s.ends.place in let b = kn.begins in omega arith;
         } in
-        let told : LoadedSequence v i found w = record { same = record { parts = refl; start = refl }; free = free; more = more; seen = refl; own = refl; shown = refl; at = refl; first = refl; pair = pair } in
+        let told : LoadedSequence v i found w = record { same = record { parts = refl; start = refl; earlier = refl }; free = free; more = more; seen = refl; own = refl; shown = refl; rises = known_below k.start k.lists words v kn i; at = refl; first = refl; pair = pair } in
         (w, loads words (set views id w) (3 * i) kept, ((λ j e. subst (λ (n : ℕ). LoadedSequence v n found w) (omega arith) told), refl))
 
 pub loads_code : (slots id : ℕ) (me : Me (Unit {0}) View) (i : ℕ) → 0 < me.0.parts → me.0.holds ≡ false → me.0.at ≡ i
@@ -87,6 +93,7 @@ loads_code slots id me i alive free here = allows slots id me (3 * i + 1) (λ n.
       told = kn.told;
       own = kn.own;
       shown = kn.shown;
+      earlier = kn.earlier;
       place = kn.place;
       low = kn.low;
       read = λ even is. (ap (code_word words) here, (kn.read even is).1);
@@ -108,6 +115,7 @@ loads_entry slots id me i alive free here = allows slots id me (3 * i + 2) (λ n
       told = kn.told;
       own = kn.own;
       shown = kn.shown;
+      earlier = kn.earlier;
       place = kn.place;
       low = kn.low;
       read = λ even is. ((kn.read even is).0, ap (entry_word words) here);

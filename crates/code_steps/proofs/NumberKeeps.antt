@@ -39,6 +39,7 @@ module _ (words now : List ℕ) (views : List View) (id : ℕ) (v : View) (i cod
     told = kn.told;
     own = kn.own;
     shown = shown_stays words now v.shown (risen k.lists k.lists words now i change) kn.shown;
+    earlier = (kn.earlier.0, shown_stays words now v.earlier (risen k.lists k.lists words now i change) kn.earlier.1);
     place = kn.place;
     low = let a = sequences v.at in let b = kn.low in omega arith;
     read = λ even is. numbers;

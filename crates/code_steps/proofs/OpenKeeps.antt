@@ -85,6 +85,7 @@ opens start pairs even some_pair = record {
       told = λ i. (list_at (one_each pairs) i, refl);
       own = tt;
       shown = λ i. subst (Each (λ n. n ≤ sequence_word (words_of start pairs) i)) (sym (none_shown pairs i)) tt;
+      earlier = (map_long _ pairs ∙ sym (map_long (λ (p : Pair). p ∷ []) pairs), λ i. subst (Each (λ n. n ≤ sequence_word (words_of start pairs) i)) (sym (none_shown pairs i)) tt);
       place = let a = map_long (λ (p : Pair). p ∷ []) pairs in omega arith;
       low = let a = w.0 in omega arith;
       read = λ _ _. (w.1, w.2);
@@ -105,6 +106,7 @@ opening_place start pairs even some_pair =
       some = omega arith;
       sized = let b = words_long start pairs in omega arith;
       shown = map_long _ pairs ∙ sym a;
+      earlier = map_long _ pairs ∙ sym a;
       even = even;
       at = omega arith;
     }

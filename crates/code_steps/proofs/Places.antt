@@ -12,6 +12,7 @@ place_loaded words v w i found p low l =
       some = let c = p.some in let d = l.same.parts in omega arith;
       sized = let c = p.sized in omega arith;
       shown = b ∙ (p.shown ∙ sym a);
+      earlier = ap length l.same.earlier ∙ (p.earlier ∙ sym a);
       even = ap (λ (n : ℕ). n % 2) l.same.start ∙ p.even;
       at = let c = l.at in omega arith;
     }
@@ -23,6 +24,7 @@ place_claimed words v w i old found p l =
       some = let c = p.some in let d = l.same.parts in omega arith;
       sized = let c = p.sized in omega arith;
       shown = b ∙ (p.shown ∙ sym a);
+      earlier = ap length l.same.earlier ∙ (p.earlier ∙ sym a);
       even = ap (λ (n : ℕ). n % 2) l.same.start ∙ p.even;
       at = let c = l.at in let d = p.at in omega arith;
     }
@@ -34,6 +36,7 @@ place_released words v w i seq p l =
       some = let c = p.some in let d = l.same.parts in omega arith;
       sized = let c = p.sized in omega arith;
       shown = b ∙ (p.shown ∙ sym a);
+      earlier = ap length l.same.earlier ∙ (p.earlier ∙ sym a);
       even = ap (λ (n : ℕ). n % 2) l.same.start ∙ p.even;
       at = let c = l.at in let d = p.at in omega arith;
     }

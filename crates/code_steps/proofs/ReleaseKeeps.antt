@@ -125,6 +125,7 @@ module _ (words : List ℕ) (views : List View) (id : ℕ) (v : View) (i seq : �
     told = λ j. starts_trans (list_at after.seen j) (list_at v.seen j) (list_at v.told j) (grown_starts v.seen i j (between ++ p ∷ []) low_seen) (kn.told j);
     own = each_append (IsSeenStore k.start longer after.seen) v.own (store_of i seq p ∷ []) (store_stays k.start k.lists longer v.seen after.seen change.grows kn.seen longer_seen v.own kn.own) (new_store, tt);
     shown = shown_stays words now v.shown (risen k.lists longer words now i change) kn.shown;
+    earlier = (kn.earlier.0 ∙ sym (grown_long k.lists i (p ∷ [])), shown_stays words now v.earlier (risen k.lists longer words now i change) kn.earlier.1);
     place = let a = change.count in let b = low in omega arith;
     low = let a = sequence_here words i seq room in omega arith;
     read = λ _ _. (sequence_code words i seq ∙ (ap (code_word words) (sym here) ∙ held.2.0), sequence_entry words i seq ∙ (ap (entry_word words) (sym here) ∙ held.2.1));
@@ -151,7 +152,7 @@ module _ (words : List ℕ) (views : List View) (id : ℕ) (v : View) (i seq : �
     after,
     kept_release,
     record {
-      same = record { parts = refl; start = refl };
+      same = record { parts = refl; start = refl; earlier = refl };
       free = refl;
       shown = refl;
       at = sym here;

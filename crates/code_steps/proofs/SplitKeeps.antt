@@ -1,16 +1,17 @@
 -- A split keeps the rule.
-use Rattle.std.proofs.Common.{◌≡◌, ℕ, zero, suc, ◌+◌, ◌≤◌, ◌<◌, false, List, [], ◌∷◌, ◌++◌, map, set, refl, sym, ap, ◌∙◌, subst, ⊎_elim, arith}
+use Rattle.std.proofs.Common.{◌≡◌, ℕ, zero, suc, ◌+◌, ◌≤◌, ◌<◌, false, List, [], ◌∷◌, ◌++◌, map, length, set, refl, sym, ap, ◌∙◌, subst, ⊎_elim, arith, append-nil}
 use Rattle.atomic_table.specs.Table.{Splits}
 use Rattle.atomic_table.proofs.Lists.{at_snoc}
 use Rattle.code_steps.specs.declared.view.View.{View}
-use Rattle.code_steps.specs.Lists.{total, Each, list_at}
-use Rattle.code_steps.specs.Views.{giver, newcomer, spent}
+use Rattle.code_steps.specs.Lists.{total, Each, list_at, in_turn}
+use Rattle.code_steps.specs.Views.{giver, newcomer, spent, known_at}
 use Rattle.code_steps.specs.Seats.{HasPlace}
 use Rattle.code_steps.specs.Rule.{sequence_word, holds_at, Knows, Ruled}
-use Rattle.code_steps.proofs.Prefixes.{map_long}
+use Rattle.code_steps.proofs.Prefixes.{map_long, of_both_long, of_both_at}
 use Rattle.code_steps.proofs.Totals.{total_set, total_snoc}
 use Rattle.code_steps.proofs.Frame.{shows_same}
 use Rattle.code_steps.proofs.Steps.{views_set, same_words, holds_free}
+use Rattle.code_steps.proofs.LoadKeeps.{known_below}
 
 -- nothing was shown
 pub none_shown : {A B : Type 0} (xs : List A) (j : ℕ) → list_at (map (λ (_ : A). let l : List B = [] in l) xs) j ≡ []
@@ -41,11 +42,14 @@ splits id v two free s k at = record {
     kn : Knows k.start k.lists s.words v
     kn = k.knows id v at (omega arith)
 
+    same : length v.earlier ≡ length v.shown
+    same = kn.earlier.0 ∙ sym kn.sizes.1
+
     cut : (f : View → ℕ) → total f (set s.views id (giver v) ++ newcomer v ∷ []) + f v ≡ total f s.views + f (giver v) + f (newcomer v)
     cut f = let a = total_snoc f (set s.views id (giver v)) (newcomer v) in let b = total_set f s.views id v (giver v) at in omega arith
 
     left : Knows k.start k.lists s.words (giver v)
-    left = record { begins = kn.begins; sizes = kn.sizes; seen = kn.seen; some = kn.some; told = kn.told; own = kn.own; shown = kn.shown; place = kn.place; low = kn.low; read = kn.read; held = kn.held }
+    left = record { begins = kn.begins; sizes = kn.sizes; seen = kn.seen; some = kn.some; told = kn.told; own = kn.own; shown = kn.shown; earlier = kn.earlier; place = kn.place; low = kn.low; read = kn.read; held = kn.held }
 
     right : Knows k.start k.lists s.words (newcomer v)
     right = record {
@@ -56,6 +60,10 @@ splits id v two free s k at = record {
       told = kn.told;
       own = tt;
       shown = λ i. subst (Each (λ n. n ≤ sequence_word s.words i)) (sym (none_shown v.shown i)) tt;
+      earlier = (
+        of_both_long in_turn v.earlier v.shown same ∙ kn.earlier.0,
+        λ i. subst (Each (λ n. n ≤ sequence_word s.words i)) (sym (of_both_at in_turn v.earlier v.shown i refl same)) (known_below k.start k.lists s.words v kn i),
+      );
       place = kn.place;
       low = kn.low;
       read = kn.read;
@@ -63,7 +71,13 @@ splits id v two free s k at = record {
     }
 
 pub giver_place : (words : ℕ) (v : View) → HasPlace words v → 2 ≤ v.parts → HasPlace words (giver v)
-giver_place words v p two = record { some = omega arith; sized = p.sized; shown = p.shown; even = p.even; at = p.at }
+giver_place words v p two = record { some = omega arith; sized = p.sized; shown = p.shown; earlier = p.earlier; even = p.even; at = p.at }
 
 pub newcomer_place : (words : ℕ) (v : View) → HasPlace words v → HasPlace words (newcomer v)
-newcomer_place words v p = record { some = omega arith; sized = p.sized; shown = map_long _ v.shown ∙ p.shown; even = p.even; at = p.at }
+newcomer_place words v p = record { some = omega arith; sized = p.sized; shown = map_long _ v.shown ∙ p.shown; earlier = of_both_long in_turn v.earlier v.shown (p.earlier ∙ sym p.shown) ∙ p.earlier; even = p.even; at = p.at }
+
+-- the new seat knows what the giver knew
+pub newcomer_known : (words : ℕ) (v : View) (i : ℕ) → HasPlace words v → known_at (newcomer v) i ≡ known_at v i
+newcomer_known words v i p =
+    ap (λ (l : List ℕ). list_at (newcomer v).earlier i ++ l) (none_shown v.shown i)
+    ∙ (append-nil (list_at (newcomer v).earlier i) ∙ of_both_at in_turn v.earlier v.shown i refl (p.earlier ∙ sym p.shown))

@@ -1,12 +1,17 @@
 -- What a write and a read tell their seat.
-use Rattle.std.specs.Prelude.{◌≡◌, ◌≢◌, ℕ, ◌-◌, ◌^◌, ◌%◌, ◌≤◌, ◌⊎◌, ◌==◌, if◌then◌else◌, List, [], ◌∷◌}
+use Rattle.std.specs.Prelude.{◌≡◌, ◌≢◌, ℕ, ◌-◌, ◌^◌, ◌%◌, ◌≤◌, ◌⊎◌, ◌==◌, if◌then◌else◌, List, [], ◌∷◌, ◌++◌}
 use Rattle.code_steps.specs.declared.view.View.{View}
 use Rattle.code_steps.specs.declared.calls.Wrote.{Wrote}
 use Rattle.code_steps.specs.declared.calls.Wrote.TheVariants.{Done, Busy, Spent}
 use Rattle.code_steps.specs.declared.calls.CodeRead.{CodeRead}
 use Rattle.code_steps.specs.declared.calls.CodeRead.TheVariants.{Pair as PairRead, Again}
-use Rattle.code_steps.specs.Lists.{Pair, list_at, grown_at, EndsWith}
+use Rattle.code_steps.specs.Lists.{Pair, Each, list_at, grown_at, EndsWith}
 use Rattle.code_steps.specs.Steps.{Stored}
+
+-- these sequences rise: each is at least those before it, and at least all that were known
+abbrev pub RiseFrom : List ℕ → List ℕ → Type 0
+RiseFrom known [] = Unit {0}
+RiseFrom known (n ∷ ns) = Each (λ m. m ≤ n) known × RiseFrom (known ++ n ∷ []) ns
 
 -- the sequences that a write showed: the one that it loaded, and where it made the exchange, the one that this found
 abbrev pub shown_by_write : Wrote → List ℕ

@@ -44,6 +44,7 @@ pub record Knows (opening : ℕ) (lists : List (List Pair)) (words : List ℕ) (
   pub told : (i : ℕ) → StartsWith (list_at v.seen i) (list_at v.told i)
   pub own : Each (IsSeenStore opening lists v.seen) v.own
   pub shown : (i : ℕ) → Each (λ n. n ≤ sequence_word words i) (list_at v.shown i)
+  pub earlier : (length v.earlier ≡ length lists) × ((i : ℕ) → Each (λ n. n ≤ sequence_word words i) (list_at v.earlier i))
   pub place : v.at < length lists
   pub low : v.first ≤ sequence_word words v.at
   pub read : v.first % 2 ≡ 0 → sequence_word words v.at ≡ v.first → HasNumbers words v

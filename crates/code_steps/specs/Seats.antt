@@ -14,6 +14,7 @@ pub record HasPlace (words : ℕ) (v : View) : Type 0 where
   pub some : 0 < v.parts
   pub sized : words ≡ 3 * length v.seen
   pub shown : length v.shown ≡ length v.seen
+  pub earlier : length v.earlier ≡ length v.seen
   pub even : v.start % 2 ≡ 0
   pub at : v.at < length v.seen
 

@@ -1,16 +1,17 @@
 -- What each kind of step tells its seat.
-use Rattle.std.specs.Prelude.{◌≡◌, ℕ, ◌+◌, ◌*◌, ◌%◌, ◌==◌, false, List, [], ◌∷◌, ◌++◌}
+use Rattle.std.specs.Prelude.{◌≡◌, ℕ, ◌+◌, ◌*◌, ◌%◌, ◌≤◌, ◌==◌, false, List, [], ◌∷◌, ◌++◌}
 use Rattle.atomic_table.specs.Table.{Step, Me}
 use Rattle.code_steps.specs.declared.view.View.{View}
-use Rattle.code_steps.specs.Lists.{Pair, StartsWith, list_at, grown_at, EndsWith, store_of}
-use Rattle.code_steps.specs.Views.{IsWhole, OwnsSeen}
+use Rattle.code_steps.specs.Lists.{Pair, StartsWith, Each, list_at, grown_at, EndsWith, store_of}
+use Rattle.code_steps.specs.Views.{IsWhole, OwnsSeen, known_at}
 
 -- what no step changes but splitting and joining
 pub record SameSeat (v w : View) : Type 0 where
   pub parts : w.parts ≡ v.parts
   pub start : w.start ≡ v.start
+  pub earlier : w.earlier ≡ v.earlier
 
--- a load of the sequence of entry i, in which the entry's whole list was seen. Where it found again what the seat had found at its last step there, and that is even, the numbers that the seat has loaded since are the last pair
+-- a load of the sequence of entry i, in which the entry's whole list was seen. No greater one was shown before. Where it found again what the seat had found at its last step there, and that is even, the numbers that the seat has loaded since are the last pair
 pub record LoadedSequence (v : View) (i found : ℕ) (w : View) : Type 0 where
   pub same : SameSeat v w
   pub free : w.holds ≡ false
@@ -18,6 +19,7 @@ pub record LoadedSequence (v : View) (i found : ℕ) (w : View) : Type 0 where
   pub seen : w.seen ≡ grown_at v.seen i more
   pub own : w.own ≡ v.own
   pub shown : w.shown ≡ grown_at v.shown i (found ∷ [])
+  pub rises : Each (λ n. n ≤ found) (known_at v i)
   pub at : w.at ≡ i
   pub first : w.first ≡ found
   pub pair : i ≡ v.at → found ≡ v.first → found % 2 ≡ 0 → EndsWith w.start (list_at w.seen i) found (v.code, v.entry)
@@ -40,12 +42,13 @@ pub record Learned (v : View) : Type 0 where
 abbrev pub learned : Step (Unit {0}) → Me (Unit {0}) View → ℕ → Me (Unit {0}) View → Type 0
 learned s m found n = (n.0 ≡ m.0) × Learned m.0 × (n.1 ≡ m.1)
 
--- an exchange of the sequence of entry i: it claimed the entry, or it found another sequence than the old one
+-- an exchange of the sequence of entry i: it claimed the entry, or it found another sequence than the old one. No greater one was shown before
 pub record Claimed (v : View) (i old found : ℕ) (w : View) : Type 0 where
   pub same : SameSeat v w
   pub seen : w.seen ≡ v.seen
   pub own : w.own ≡ v.own
   pub shown : w.shown ≡ grown_at v.shown i (found ∷ [])
+  pub rises : Each (λ n. n ≤ found) (known_at v i)
   pub at : w.at ≡ v.at
   pub holds : w.holds ≡ (found == old)
   pub first : found ≡ old → w.first ≡ old + 1

@@ -17,6 +17,7 @@ opening_view start pairs = record {
   seen = map (λ p. p ∷ []) pairs;
   own = [];
   shown = map (λ _. []) pairs;
+  earlier = map (λ _. []) pairs;
   told = [];
   at = 0;
   first = start;
@@ -33,12 +34,12 @@ pairs_of _ = []
 abbrev pub first_view : List ℕ → View
 first_view words = opening_view (slice_index words 0) (pairs_of words)
 
--- a seat that gave a part, and the new seat: it has seen what the giver had, and has no store and shown nothing of its own
+-- a seat that gave a part, and the new seat: it has seen what the giver had, what was shown before to the giver was shown earlier, and it has no store and shown nothing of its own
 abbrev pub giver : View → View
 giver v = record v { parts = v.parts - 1 }
 
 abbrev pub newcomer : View → View
-newcomer v = record v { parts = 1; own = []; shown = map (λ _. []) v.shown }
+newcomer v = record v { parts = 1; own = []; shown = map (λ _. []) v.shown; earlier = of_both in_turn v.earlier v.shown }
 
 -- a seat that took in another: the parts and the own stores of both, of each entry the longer list, and what its steps and then the other's showed
 abbrev pub both : View → View → View
@@ -47,12 +48,17 @@ both v u = record v {
   seen = of_both longer v.seen u.seen;
   own = v.own ++ u.own;
   shown = of_both in_turn v.shown u.shown;
+  earlier = of_both in_turn v.earlier u.earlier;
   told = of_both shorter v.seen u.seen;
 }
 
+-- every sequence that was shown of an entry: to the seats that this one was split from, before it was, and to this one
+abbrev pub known_at : View → ℕ → List ℕ
+known_at v i = list_at v.earlier i ++ list_at v.shown i
+
 -- what a join leaves
 abbrev pub spent : View
-spent = record { parts = 0; start = 0; seen = []; own = []; shown = []; told = []; at = 0; first = 0; code = 0; entry = 0; holds = false }
+spent = record { parts = 0; start = 0; seen = []; own = []; shown = []; earlier = []; told = []; at = 0; first = 0; code = 0; entry = 0; holds = false }
 
 -- each own store is that of a pair that the seat has seen
 abbrev pub OwnsSeen : View → Type 0

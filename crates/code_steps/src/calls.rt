@@ -3,7 +3,8 @@ ghost use Rattle.std.specs.Prelude.{◌≡◌, ◌<◌, ◌≤◌, length};
 ghost use Rattle.code_steps.specs.Seats.{view, IsOf};
 ghost use Rattle.code_steps.specs.Lists.{grown_at};
 ghost use Rattle.code_steps.specs.Steps.{SameSeat};
-ghost use Rattle.code_steps.specs.Calls.{shown_by_write, HasWriteCause, ToldByWrite, shown_by_read, HasReadCause, ToldByRead};
+ghost use Rattle.code_steps.specs.Views.{known_at};
+ghost use Rattle.code_steps.specs.Calls.{RiseFrom, shown_by_write, HasWriteCause, ToldByWrite, shown_by_read, HasReadCause, ToldByRead};
 
 use crate::seat::CodeSeat;
 use crate::table::CodeTable;
@@ -40,6 +41,7 @@ pub fn write(table: &CodeTable, s: &mut CodeSeat, at: u32, code: u64, entry: u64
     ensures caller { IsOf table.now s.new }
     ensures same { SameSeat (view s.old) (view s.new) }
     ensures shown { (view s.new).shown ≡ grown_at (view s.old).shown at (shown_by_write result) }
+    ensures rises { RiseFrom (known_at (view s.old) at) (shown_by_write result) }
     ensures cause { HasWriteCause result }
     ensures told { ToldByWrite (view s.old) at (code, entry) result (view s.new) }
 {
@@ -72,6 +74,7 @@ pub fn read(table: &CodeTable, s: &mut CodeSeat, at: u32) -> CodeRead
     ensures caller { IsOf table.now s.new }
     ensures same { SameSeat (view s.old) (view s.new) }
     ensures shown { (view s.new).shown ≡ grown_at (view s.old).shown at (shown_by_read result) }
+    ensures rises { RiseFrom (known_at (view s.old) at) (shown_by_read result) }
     ensures cause { HasReadCause result }
     ensures told { ToldByRead (view s.old) at result (view s.new) }
 {

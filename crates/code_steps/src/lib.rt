@@ -3,12 +3,13 @@
 //! and a write puts its pair behind the others of its entry.
 //!
 //! `table.rt` has the table, `seat.rt` what a thread steps with, `calls.rt` `write` and `read`.
-//! `view.rt` has what a seat knows, and `plays.rt` the kinds of step. The words of the contracts
-//! stand in `specs/`: `Lists`, `Views` and `Calls`; the rule of the words stands in `Rule`.
+//! `view.rt` has what a seat knows, and `plays.rt` the kinds of step, which are private: only `read`
+//! and `write` add to what was shown to a seat. The words of the contracts stand in `specs/`:
+//! `Lists`, `Views` and `Calls`; the rule of the words stands in `Rule`.
 #![tactic(auto)]
 
 mod calls;
-pub mod plays;
+mod plays;
 mod seat;
 mod table;
 #[cfg(test)]

@@ -13,32 +13,34 @@ use atomic_table::Seat;
 /// its parts, what it has seen, its own stores and what its steps showed.
 #[derive(Drop)]
 pub struct CodeSeat {
-    pub seat: Seat<(), View>,
+    pub(crate) seat: Seat<(), View>,
     ghost bare: { seat.me.1 ≡ [] },
 }
 
 impl CodeSeat {
-    ghost use Rattle.code_steps.specs.Lists.{StartsWith, list_at};
-    ghost use Rattle.code_steps.specs.Views.{giver, newcomer, both, OwnsSeen, IsWhole};
+    ghost use Rattle.code_steps.specs.Lists.{StartsWith, list_at, total};
+    ghost use Rattle.code_steps.specs.Views.{giver, newcomer, both, known_at, OwnsSeen, IsWhole};
     ghost use Rattle.code_steps.specs.Steps.{LoadedSequence, Claimed, Released};
     ghost use Rattle.code_steps.specs.Seats.{view, IsOf, IsAt};
 
     /// Gives one of at least two parts to a new seat of the same table, which has seen what this
-    /// one has.
+    /// one has: no later call of either shows a sequence below those that were shown to this one.
     pub fn split(&mut self, table: &CodeTable) -> CodeSeat
         requires caller { IsOf table.now self.old }
         requires parts { 2 ≤ (view self.old).parts }
         ensures callers { IsOf table.now self.new × IsOf table.now result }
         ensures left { view self.new ≡ giver (view self.old) }
         ensures right { view result ≡ newcomer (view self.old) }
+        ensures known { (i : ℕ) → (known_at (view self.new) i ≡ known_at (view self.old) i)
+            × (known_at (view result) i ≡ known_at (view self.old) i) }
     {
         CodeSeat {
             seat: table.table.shared.split_seat::<GivesPart>(&mut self.seat),
         }
     }
 
-    /// Takes in another seat of the same table: the parts and own stores of both, and of each entry
-    /// the longer of the two lists, which begins with the other. A seat that has all 16 parts then
+    /// Takes in another seat of the same table: the parts and own stores of both, of each entry the
+    /// longer of the two lists, which begins with the other, and all that was shown to either. A seat that has all 16 parts then
     /// has seen every list whole.
     pub fn join(&mut self, table: &CodeTable, other: CodeSeat)
         requires { IsOf table.now self.old × IsOf table.now other }
@@ -46,6 +48,8 @@ impl CodeSeat {
         ensures joined { view self.new ≡ both (view self.old) (view other) }
         ensures seen { (i : ℕ) → StartsWith (list_at (view self.new).seen i) (list_at (view self.old).seen i)
             × StartsWith (list_at (view self.new).seen i) (list_at (view other).seen i) }
+        ensures known { (i : ℕ) (weight : ℕ → ℕ) → total weight (known_at (view self.new) i)
+            ≡ total weight (known_at (view self.old) i) + total weight (known_at (view other) i) }
         ensures own { OwnsSeen (view self.new) }
         ensures whole { (view self.new).parts ≡ 16 → IsWhole (view self.new) }
     {

@@ -15,7 +15,7 @@ pub struct OutOfMemory;
 /// Entries of a sequence, a code number and an entry number, which threads share through a `&`.
 #[derive(Drop)]
 pub struct CodeTable {
-    pub table: Table<(), View, Vec<u64>, OneClaimer, Global>,
+    pub(crate) table: Table<(), View, Vec<u64>, OneClaimer, Global>,
     // The room for the words at the end.
     room: Vec<u64>,
     ghost no_slots: { table.shared.table_id.slots ≡ 0 },

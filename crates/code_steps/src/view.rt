@@ -20,6 +20,9 @@ pub struct View {
     pub own: LinkedList<Store>,
     /// For each entry, the sequences that its loads and exchanges of the sequence showed, in order.
     pub shown: LinkedList<LinkedList<u64>>,
+    /// For each entry, the sequences that were shown before a split to the seats that it was split
+    /// from, and joined with later.
+    pub earlier: LinkedList<LinkedList<u64>>,
     /// For each entry, the shorter one of the two lists that were put together last.
     pub told: LinkedList<LinkedList<(u64, u64)>>,
     /// The entry at which it stepped last, the sequence that it found or stored there, and the two

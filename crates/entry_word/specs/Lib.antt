@@ -1,1 +1,4 @@
 pub mod Entry
+pub mod Layout
+pub mod Image
+pub mod Fresh

@@ -1,18 +1,22 @@
-// The machine word of a table entry, and the index in an index word.
-//
-// Each valid entry has one word, no two share one, and `decode` gives back exactly the entry of a
-// word, or None where the word is no entry's. `specs/Entry.antt` says which entries are valid, the
-// word of each, and the ranges that the words stand in. `index_word.rt` has the 32-bit index words.
+//! The machine word of a table entry, the index in an index word, and the image of a table between two phases.
+//!
+//! Each valid entry has one word, no two share one, and `decode` gives back exactly the entry of a word, or None where the
+//! word is no entry's: `specs/Entry.antt` says which entries are valid, and the word of each, and `specs/Layout.antt` that
+//! the model's numbers are these words. `index_word.rt` has the 32-bit index words. `image.rt` has the image: a fresh one
+//! shows the table before anything happened (`specs/Image.antt`).
 #![tactic(auto)]
 
 ghost use Rattle.std.specs.Prelude.{◌≡◌, ◌+◌, ◌*◌, ◌^◌, ◌↔◌, IfNone, IfSome, IsSome};
 ghost use Rattle.entry_word.specs.declared.Entry.{Entry};
+ghost use Rattle.entry_word.specs.Layout.{IsOneLayout};
 ghost use Rattle.entry_word.specs.Entry.{IsValid, IsTagged, entry_word, tagged_word, IsNoEntry, IsEntryWord, WordsAreUnique};
 
+mod image;
 mod index_word;
 #[cfg(test)]
 mod tests;
 
+pub use image::{Image, Pending, Shape};
 pub use index_word::{index_of, word_of};
 
 /// The tag stands in bits 48 to 55, above the value in bits 0 to 47.
@@ -108,4 +112,10 @@ pub fn decode(word: u64) -> Option<Entry>
 /// A law with no code: no two valid entries have one word (`WordsAreUnique` of `specs/Entry.antt`).
 pub fn words_are_unique()
     ensures { WordsAreUnique }
+{}
+
+/// A law with no code: the model's numbers for cells, free and evacuation entries and entries that may not be used, and
+/// the regular words of tags, are the words of the entries (`IsOneLayout` of `specs/Layout.antt`).
+pub fn layouts_agree()
+    ensures { IsOneLayout }
 {}

@@ -3,7 +3,8 @@
 ghost use Rattle.std.specs.Prelude.{◌≡◌, ◌<◌, ◌↔◌, true, IsTrue, length, map, slice_get, slice_index, All};
 ghost use Rattle.entry_word.specs.Entry.{IsValid, IsTagged, IsNoEntry, entry_word};
 
-use super::{Entry, decode, encode, index_of, word_of, words_are_unique};
+use super::{Entry, Image, Shape, decode, encode, index_of, word_of, words_are_unique};
+use plain_table::OutOfMemory;
 
 // `decode` of `encode` gives the entry back.
 fn round_trip(e: &Entry) -> Option<Entry>
@@ -113,4 +114,43 @@ fn other_words_are_no_entries(rt: HostRuntime) {
 fn index_words_hold_the_index_above(rt: HostRuntime) {
     assert_eq!(rt; index_of(0x0001_abcd), 1);
     assert_eq!(rt; word_of(2), 0x0002_0000);
+}
+
+#[test]
+fn a_fresh_image_has_one_free_segment_in_each_space(rt: HostRuntime) -> Result<(), OutOfMemory> {
+    let shape = Shape {
+        seg: 4,
+        ext: 2,
+        tru: 1,
+        objects: 4,
+    };
+    let image = Image::fresh(rt.alloc(), shape)?;
+    assert_eq!(rt; image.shape, shape);
+    assert_eq!(rt; image.words.len(), 76);
+    assert_eq!(rt;
+        image.words[0],
+        0x0000_0003_0000_0001,
+        "the external freelist"
+    );
+    assert_eq!(rt;
+        image.words[2],
+        0x0000_0003_0000_0001,
+        "the trusted freelist"
+    );
+    assert_eq!(rt; image.words[3], 0, "no object");
+    assert_eq!(rt; image.words[64], 0, "external entry 0");
+    assert_eq!(rt; image.words[65], 0x0100_0000_0000_0002);
+    assert_eq!(rt; image.words[67], 0x0100_0000_0000_0004);
+    assert_eq!(rt;
+        image.words[68],
+        0x0200_0000_0000_0000,
+        "the second segment"
+    );
+    assert_eq!(rt; image.words[72], 0, "trusted entry 0");
+    assert_eq!(rt; image.words[75], 0x0100_0000_0000_0004);
+    assert_eq!(rt; image.vars.len(), 128);
+    assert_eq!(rt; image.vars[127], 0);
+    assert_eq!(rt; image.pending.len(), 8);
+    assert_eq!(rt; image.pending[7], None);
+    Ok(())
 }

@@ -1,13 +1,13 @@
 -- The evacuation area begins within the segments in use, as it has no more segments than these, and fewer if there are
 -- any; and what it is counted from: how many numbers below a limit a set has, and the greatest one of them.
-use Rattle.std.proofs.Common.{◌≡◌, ℕ, zero, suc, ◌+◌, ◌-◌, ◌*◌, ◌/◌, ◌<◌, ◌≤◌, ◌==◌, Bool, true, false, Option, Some, None, arith, ap, ◌∙◌, subst, refl, inl, inr}
+use Rattle.std.proofs.Common.{◌≡◌, ℕ, zero, suc, ◌+◌, ◌-◌, ◌*◌, ◌/◌, ◌<◌, ◌≤◌, ◌==◌, Bool, true, false, Option, Some, None, arith, ap, ap₂, unwrap_or, ◌∙◌, subst, refl, inl, inr}
 use Rattle.std.specs.Prelude.{if◌then◌else◌, nat_le, ◌&&◌, IfSome, IsTrue, IsSome}
 use Rattle.std.proofs.Math.Nat.{div-le_of_le-mul, div-lt_iff_lt-mul, mul-le-mul_right, mul_comm}
 use Rattle.std.proofs.lemmas.Bool.{cases_lt, both_ways, and_parts, leb-true}
 use Rattle.std.proofs.lemmas.Bool.Decides.{nat_tests}
 use Rattle.plain_table.specs.declared.scripts.Policy.{Policy}
 use Rattle.plain_table.specs.declared.scripts.Policy.TheVariants.{Auto, Always, Never}
-use Rattle.plain_table.specs.Area.{area_segments, area_start, count_below, greatest_below}
+use Rattle.plain_table.specs.Area.{area_segments, area_start, count_below, greatest_below, segments_in_use}
 
 -- an area has fewer segments than are in use
 if-less : (test : Bool) (x segs : ℕ) → 1 ≤ segs → (IsTrue test → x < segs) → (if test then x else 0) < segs
@@ -110,3 +110,39 @@ segments-le set entries seg ext greatest same some is =
     let more : 1 + greatest / entries ≤ ext = omega arith in
     let most : (1 + greatest / entries) * entries ≤ ext * entries = mul-le-mul_right entries more in
     subst (λ (all : ℕ). (1 + greatest / entries) * entries ≤ all) (mul_comm ext entries ∙ ap (λ (n : ℕ). n * ext) same) most
+
+-- sets that agree have the same greatest number
+pub greatest_below-same : (set other : ℕ → Bool) (n : ℕ) → ((k : ℕ) → other k ≡ set k) → greatest_below other n ≡ greatest_below set n
+greatest_below-same set other zero same = refl
+greatest_below-same set other (suc n) same =
+    ap₂ (λ (b : Bool) found. if b then Some n else found) (same n) (greatest_below-same set other n same)
+
+-- the greatest number, and 0 where there is none: it is below the limit, and in a set that has 0
+pub greatest_below-or_zero_lt : (set : ℕ → Bool) (n : ℕ) → 1 ≤ n → unwrap_or (greatest_below set n) 0 < n
+greatest_below-or_zero_lt set n some = by_case (greatest_below set n) refl
+  where
+    by_case : (found : Option ℕ) → greatest_below set n ≡ found → unwrap_or found 0 < n
+    by_case None is = some
+    by_case (Some m) is = greatest_below-lt set n m is
+
+pub greatest_below-member : (set : ℕ → Bool) (n : ℕ) → IsTrue (set 0) → IsTrue (set (unwrap_or (greatest_below set n) 0))
+greatest_below-member set n first = by_case (greatest_below set n) refl
+  where
+    by_case : (found : Option ℕ) → greatest_below set n ≡ found → IsTrue (set (unwrap_or found 0))
+    by_case None is = first
+    by_case (Some m) is = (greatest_below-is set n m is).member
+
+-- each number of a set below the limit is in a segment in use
+past-segment : (i greatest seg : ℕ) → 1 ≤ seg → i ≤ greatest → i < (1 + greatest / seg) * seg
+past-segment i greatest seg one most = omega arith
+
+pub segments_in_use-past : (set : ℕ → Bool) (limit seg i : ℕ) → 1 ≤ seg → i < limit → set i ≡ true → i < segments_in_use set limit seg * seg
+segments_in_use-past set limit seg i one below is = by_case (greatest_below set limit) refl
+  where
+    by_case : (found : Option ℕ) → greatest_below set limit ≡ found → i < (1 + unwrap_or found 0 / seg) * seg
+    by_case None none = absurd (let some = greatest_below-some set limit i below is in cc)
+    by_case (Some m) found =
+        past-segment i m seg one (elim (cases_lt m i) [
+          | inl less ↦ absurd (both_ways (set i) ((greatest_below-is set limit m found).greatest i less below) is)
+          | inr more ↦ more
+        ])

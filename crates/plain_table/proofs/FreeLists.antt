@@ -1,11 +1,12 @@
 -- The least free index and the count of free ones: what they tell of the indexes, and what they are behind a take.
-use Rattle.std.proofs.Common.{◌≡◌, ◌≢◌, ◌+◌, ◌-◌, ◌<◌, ◌≤◌, ℕ, zero, suc, Bool, true, false, Some, None, refl, sym, ap, ap₂, ◌∙◌, inl, inr, arith}
+use Rattle.std.proofs.Common.{◌≡◌, ◌≢◌, ◌+◌, ◌-◌, ◌<◌, ◌≤◌, ℕ, zero, suc, Bool, true, false, Some, None, unwrap_or, refl, sym, ap, ap₂, ◌∙◌, inl, inr, arith}
 use Rattle.std.specs.Prelude.{if◌then◌else◌}
 use Rattle.std.proofs.lemmas.Bool.{cases_Bool}
 use Rattle.std.proofs.lemmas.Bool.Decides.{eqb_tells}
 use Rattle.std.proofs.lemmas.Option.{none-some, same_Some}
 use Rattle.plain_table.specs.Area.{count_below}
 use Rattle.plain_table.specs.Table.{least_from}
+use Rattle.plain_table.specs.Words.{next_free}
 use Rattle.plain_table.proofs.LeastFree.{least_from-used}
 
 -- one step of the search
@@ -53,6 +54,9 @@ least_from-same used other i zero same = refl
 least_from-same used other i (suc n) same =
     ap₂ (λ (b : Bool) found. if b then found else Some i) (same i (omega arith))
     (least_from-same used other (i + 1) n (λ k from. same k (omega (arith, from))))
+
+pub next_free-same : (used other : ℕ → Bool) (i end : ℕ) → ((k : ℕ) → i ≤ k → other k ≡ used k) → next_free other i end ≡ next_free used i end
+next_free-same used other i end same = ap (λ found. unwrap_or found end) (least_from-same used other i (end - i) same)
 
 -- used indexes are passed over
 pub least_from-past : (used : ℕ → Bool) (i n end : ℕ) → ((k : ℕ) → i ≤ k → k < i + n → used k ≡ true) → i + n ≤ end →

@@ -1,5 +1,6 @@
--- What is known of the least free index that was found: it is not used, and stands from 1 on below the limit.
-use Rattle.std.proofs.Common.{◌≡◌, ◌≢◌, ◌+◌, ◌-◌, ◌<◌, ◌≤◌, ℕ, zero, suc, Bool, false, Option, Some, None, sym, ◌∙◌, ap, arith, inl, inr}
+-- What is known of the least free index that was found: it is not used, and stands from 1 on below the limit; and the next
+-- free one before an end is at most the end.
+use Rattle.std.proofs.Common.{◌≡◌, ◌≢◌, ◌+◌, ◌-◌, ◌<◌, ◌≤◌, ℕ, zero, suc, Bool, false, Option, Some, None, unwrap_or, refl, sym, ◌∙◌, ap, arith, inl, inr}
 use Rattle.std.specs.Prelude.{if◌then◌else◌, nat_lt}
 use Rattle.std.proofs.lemmas.Bool.{cases_Bool}
 use Rattle.std.proofs.lemmas.Option.{none-some, same_Some}
@@ -7,6 +8,7 @@ use Rattle.plain_table.specs.declared.events.Space.{Space}
 use Rattle.plain_table.specs.declared.events.Space.TheVariants.{External}
 use Rattle.plain_table.specs.Table.{Table, limit_of, least_from, least_free}
 use Rattle.plain_table.specs.Rows.{only_below, free_below}
+use Rattle.plain_table.specs.Words.{next_free}
 
 pub least_from-some : (used : ℕ → Bool) (i n k : ℕ) → least_from used i n ≡ Some k → (used k ≡ false) × (i ≤ k) × (k < i + n)
 least_from-some used i zero k e = absurd (none-some k e)
@@ -34,3 +36,19 @@ only_below-some start (Some k) i e = elim (cases_Bool (nat_lt k start)) [
 
 pub free_below-some : (s : Table) (start i : ℕ) → free_below s start ≡ Some i → least_free s External ≡ Some i
 free_below-some s start i e = only_below-some start (least_free s External) i e
+
+-- the next free index is not past the end
+pub next_free-le : (used : ℕ → Bool) (i end : ℕ) → next_free used i end ≤ end
+next_free-le used i end = by_case (least_from used i (end - i)) refl
+  where
+    by_case : (found : Option ℕ) → least_from used i (end - i) ≡ found → unwrap_or found end ≤ end
+    by_case None is = omega arith
+    by_case (Some k) is = let told = least_from-some used i (end - i) k is in omega (arith, told.1, told.2)
+
+-- nor before the first index that is looked at
+pub next_free-ge : (used : ℕ → Bool) (i end : ℕ) → i ≤ end → i ≤ next_free used i end
+next_free-ge used i end within = by_case (least_from used i (end - i)) refl
+  where
+    by_case : (found : Option ℕ) → least_from used i (end - i) ≡ found → i ≤ unwrap_or found end
+    by_case None is = within
+    by_case (Some k) is = (least_from-some used i (end - i) k is).1

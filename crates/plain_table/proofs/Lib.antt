@@ -9,3 +9,9 @@ pub mod CycleParts
 pub mod WordPlaces
 pub mod FreeLists
 pub mod ScansGoOn
+pub mod SpacesShown
+pub mod SegmentEnds
+pub mod ObjectFields
+pub mod Rewrites
+pub mod OpeningSound
+pub mod OpeningShows

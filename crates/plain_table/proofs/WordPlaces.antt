@@ -6,13 +6,8 @@ use Rattle.plain_table.specs.declared.events.Space.TheVariants.{External, Truste
 use Rattle.plain_table.specs.declared.events.Field.{Field}
 use Rattle.plain_table.specs.declared.events.Field.TheVariants as field
 use Rattle.plain_table.specs.Places.{object_of}
-use Rattle.plain_table.specs.Table.{Sizes}
+use Rattle.plain_table.specs.Table.{Sizes, limit_in}
 use Rattle.plain_table.specs.Words.{freelist_place, header_place, reference_place, field_place, entry_place, words_in_all}
-
--- the entries of a space
-abbrev pub limit_in : Sizes → Space → ℕ
-limit_in sizes External = sizes.seg * sizes.ext
-limit_in sizes Trusted = sizes.seg * sizes.tru
 
 -- heap words stand behind the globals and before the entries
 pub field_place-from : (f : Field) → 37 ≤ field_place f

@@ -17,3 +17,4 @@ pub mod Words
 pub mod Shows
 pub mod Ranges
 pub mod Near
+pub mod Openings

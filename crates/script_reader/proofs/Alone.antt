@@ -27,12 +27,13 @@ start-full c policy (part ∷ parts) h = refl
 pub start-more : (c : Counts) (policy text : List ℕ) → start_line c (policy ∷ words text) ≡ Err BadLine
 start-more c policy text = start-full c policy (words text) (slice_split-full (λ byte. byte == 32) text)
 
-none-full : (parts : List (List ℕ)) (s : Said) → is_empty parts ≡ false → read_places [] parts s ≡ Err BadLine
-none-full [] s h = absurd cc
-none-full (part ∷ parts) s h = refl
+none-full : (version : ℕ) (parts : List (List ℕ)) (s : Said) → is_empty parts ≡ false
+    → read_places version [] parts s ≡ Err BadLine
+none-full version [] s h = absurd cc
+none-full version (part ∷ parts) s h = refl
 
 -- no place is left for a word
-pub no_place : (places : List Place) (text : List ℕ) (s : Said) → length places < 1
-    → read_places places (words text) s ≡ Err BadLine
-no_place [] text s h = none-full (words text) s (slice_split-full (λ byte. byte == 32) text)
-no_place (place ∷ places) text s h = absurd (omega arith)
+pub no_place : (version : ℕ) (places : List Place) (text : List ℕ) (s : Said) → length places < 1
+    → read_places version places (words text) s ≡ Err BadLine
+no_place version [] text s h = none-full version (words text) s (slice_split-full (λ byte. byte == 32) text)
+no_place version (place ∷ places) text s h = absurd (omega arith)

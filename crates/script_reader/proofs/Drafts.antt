@@ -17,18 +17,18 @@ use Rattle.script_reader.specs.Lines.{most_meets}
 use Rattle.script_reader.specs.Reading.{IsCall, IsDraft}
 use Rattle.script_reader.specs.Valid.{IsValidLimits, IsValidOp, IsValidPhase, IsValidScript, lists_length, operations_of, meet_behind, meets_behind}
 
-ops-each : (m k : ℕ) (calls : List Call) → All (IsCall m) calls → All IsValidOp (ops_of k calls)
-ops-each m k [] h = All-nil IsValidOp
-ops-each m k (call ∷ calls) h =
-    let first : IsCall m call = All-head (IsCall m) call calls h in
-    let more : All IsValidOp (ops_of k calls) = ops-each m k calls (All-tail (IsCall m) call calls h) in
-    elim (call.mutator == k) as (λ b. All IsValidOp (cond b (call.op ∷ ops_of k calls) (ops_of k calls)))
-    [ true ↦ All-cons IsValidOp call.op (ops_of k calls) first.op more | false ↦ more ]
+ops-each : (a m k : ℕ) (calls : List Call) → All (IsCall a m) calls → All (IsValidOp a) (ops_of k calls)
+ops-each a m k [] h = All-nil (IsValidOp a)
+ops-each a m k (call ∷ calls) h =
+    let first : IsCall a m call = All-head (IsCall a m) call calls h in
+    let more : All (IsValidOp a) (ops_of k calls) = ops-each a m k calls (All-tail (IsCall a m) call calls h) in
+    elim (call.mutator == k) as (λ b. All (IsValidOp a) (cond b (call.op ∷ ops_of k calls) (ops_of k calls)))
+    [ true ↦ All-cons (IsValidOp a) call.op (ops_of k calls) first.op more | false ↦ more ]
 
-pub lists-each : (m k : ℕ) (calls : List Call) → All (IsCall m) calls → All (All IsValidOp) (lists_of k calls)
-lists-each m zero calls h = All-nil (All IsValidOp)
-lists-each m (suc k) calls h =
-    All-push (All IsValidOp) (lists_of k calls) (ops_of k calls) (lists-each m k calls h) (ops-each m k calls h)
+pub lists-each : (a m k : ℕ) (calls : List Call) → All (IsCall a m) calls → All (All (IsValidOp a)) (lists_of k calls)
+lists-each a m zero calls h = All-nil (All (IsValidOp a))
+lists-each a m (suc k) calls h =
+    All-push (All (IsValidOp a)) (lists_of k calls) (ops_of k calls) (lists-each a m k calls h) (ops-each a m k calls h)
 
 pub lists-length : (k : ℕ) (calls : List Call) → length (lists_of k calls) ≡ k
 lists-length zero calls = refl
@@ -79,10 +79,10 @@ meets-push cycle (first ∷ phases) phase =
     [ None ↦ refl | Some x ↦ meets-push x phases phase ]
 
 phase-valid : (limits : Limits) (d : Draft) (meet : Meet) → IsDraft limits d
-    → IsValidPhase limits.mutators (phase_of d.counts.mutators d.calls meet)
+    → IsValidPhase d.counts.version limits.mutators (phase_of d.counts.mutators d.calls meet)
 phase-valid limits d meet h = record {
   lists = lists-length d.counts.mutators d.calls ∙ h.mutators;
-  each = lists-each limits.mutators d.counts.mutators d.calls h.calls;
+  each = lists-each d.counts.version limits.mutators d.counts.mutators d.calls h.calls;
 }
 
 pub draft-meet : (limits : Limits) (d : Draft) (meet : Meet) → IsDraft limits d
@@ -91,9 +91,10 @@ pub draft-meet : (limits : Limits) (d : Draft) (meet : Meet) → IsDraft limits 
 draft-meet limits d meet h proper few =
     let phase = phase_of d.counts.mutators d.calls meet in
     record {
+      version = h.version;
       mutators = h.mutators;
-      each = All-push (IsValidPhase limits.mutators) d.phases phase h.each (phase-valid limits d meet h);
-      calls = All-nil (IsCall limits.mutators);
+      each = All-push (IsValidPhase d.counts.version limits.mutators) d.phases phase h.each (phase-valid limits d meet h);
+      calls = All-nil (IsCall d.counts.version limits.mutators);
       cycles = meets-push false d.phases phase ∙ ap (option_and_then (λ next. meet_behind next meet)) h.cycles ∙ proper;
       counted = omega (arith, length-append d.phases (phase ∷ []), h.counted);
       meets = omega (arith, few);
@@ -106,8 +107,9 @@ pub script-valid : (limits : Limits) (d : Draft) → IsValidLimits limits → Is
 script-valid limits d valid h outside =
     let phase = phase_of d.counts.mutators d.calls End in
     record {
+      version = h.version;
       limits = valid;
-      each = All-push (IsValidPhase limits.mutators) d.phases phase h.each (phase-valid limits d End h);
+      each = All-push (IsValidPhase d.counts.version limits.mutators) d.phases phase h.each (phase-valid limits d End h);
       phases = d.phases;
       last = phase;
       split = refl;

@@ -7,15 +7,16 @@ use Rattle.std.proofs.lemmas.Bool.Decides.{nat_tests}
 use Rattle.std.proofs.lemmas.List.{append_assoc}
 use Rattle.std.proofs.Math.Nat.{div-le_self}
 use Rattle.script_reader.specs.declared.refusals.ScriptErr.{ScriptErr}
+use Rattle.script_reader.specs.declared.header.Header.{Header}
 use Rattle.script_reader.specs.declared.lines.Counts.{Counts}
 use Rattle.plain_table.specs.declared.scripts.Limits.{Limits}
 use Rattle.plain_table.specs.declared.scripts.Phase.{Phase}
 use Rattle.plain_table.specs.declared.scripts.Script.{Script}
-use Rattle.script_reader.specs.Spelling.{pieces}
-use Rattle.script_reader.specs.Header.{are_limits, limits_of, limits_of_numbers}
+use Rattle.script_reader.specs.Spelling.{pieces, small_of}
+use Rattle.script_reader.specs.Header.{are_limits, header_of, limits_of_numbers, version_of}
 use Rattle.script_reader.specs.Grammar.{header_from, lines_from, opening, script_of}
 use Rattle.script_reader.specs.Lines.{most_operations}
-use Rattle.script_reader.specs.Valid.{IsValidLimits, IsValidPhase, operations_of}
+use Rattle.script_reader.specs.Valid.{IsVersion, IsValidLimits, IsValidPhase, operations_of}
 use Rattle.script_reader.specs.Canonical.{header_text, header_words, phase_text, spaced}
 use Rattle.script_reader.specs.Law.{PrintedIsReadBack}
 use Rattle.script_reader.proofs.Splitting.{slice_split-full}
@@ -51,14 +52,15 @@ are-small l v = record {
 ink-named : (name : List ℕ) (n : ℕ) → is_ink name ≡ true → n < 10 ^ 9 → is_ink (name ++ decimal n) ≡ true
 ink-named name n i h = ink-append name (decimal n) i (ink-decimal n (omega arith))
 
-ink-header : (l : Limits) → AreSmall l → are_ink (header_words l) ≡ true
-ink-header l s =
-    both (is_ink (codes "seg=" ++ decimal l.seg)) _ (ink-named (codes "seg=") l.seg refl s.seg)
+ink-header : (version : ℕ) (l : Limits) → version < 10 ^ 9 → AreSmall l → are_ink (header_words version l) ≡ true
+ink-header version l small s =
+    both (is_ink (decimal version)) _ (ink-decimal version (omega arith))
+    (both (is_ink (codes "seg=" ++ decimal l.seg)) _ (ink-named (codes "seg=") l.seg refl s.seg)
     (both (is_ink (codes "ext=" ++ decimal l.ext)) _ (ink-named (codes "ext=") l.ext refl s.ext)
     (both (is_ink (codes "tru=" ++ decimal l.tru)) _ (ink-named (codes "tru=") l.tru refl s.tru)
     (both (is_ink (codes "objects=" ++ decimal l.objects)) _ (ink-named (codes "objects=") l.objects refl s.objects)
     (both (is_ink (codes "mutators=" ++ decimal l.mutators)) _ (ink-named (codes "mutators=") l.mutators refl s.mutators)
-    (both (is_ink (codes "markers=" ++ decimal l.markers)) true (ink-named (codes "markers=") l.markers refl s.markers) refl)))))
+    (both (is_ink (codes "markers=" ++ decimal l.markers)) true (ink-named (codes "markers=") l.markers refl s.markers) refl))))))
 
 low : (m n : ℕ) → m ≤ n → nat_le m n ≡ true
 low m n h = grind (arith, common_steps, nat_tests)
@@ -96,30 +98,46 @@ numbers l v s =
       are-limits l v,
     ) refl
 
-read-header : (l : Limits) → IsValidLimits l → limits_of (codes "ept" ++ spaced (header_words l)) ≡ Some l
-read-header l v =
-    let s = are-small l v in
-    rw (words-spaced (codes "ept") (header_words l) refl (ink-header l s)) (numbers l v s)
+low-version : (version : ℕ) → IsVersion version → version < 10 ^ 9
+low-version version v = elim v [ inl one ↦ omega arith | inr two ↦ omega arith ]
 
-text-header : (l : Limits) (body : List ℕ) → IsValidLimits l
-    → script_of (header_text l ++ body) ≡ lines_from l (opening l) 2 (pieces body)
-text-header l body v =
-    let line : List ℕ = codes "ept" ++ spaced (header_words l) in
-    let p : pieces (header_text l ++ body) ≡ line ∷ pieces body =
+read-version : (version : ℕ) → IsVersion version → version_of (decimal version) ≡ Some version
+read-version version v =
+    let e : small_of (decimal version) ≡ Some version = read-decimal version (low-version version v) in
+    let t : (version == 1 || version == 2) ≡ true = elim v [ inl one ↦ rw one refl | inr two ↦ rw two refl ] in
+    rw (e, t) refl
+
+read-header : (h : Header) → IsVersion h.version → IsValidLimits h.limits
+    → header_of (codes "ept" ++ spaced (header_words h.version h.limits)) ≡ Some h
+read-header h a v =
+    let s = are-small h.limits v in
+    rw (
+      words-spaced (codes "ept") (header_words h.version h.limits) refl (ink-header h.version h.limits (low-version h.version a) s),
+      read-version h.version a,
+      numbers h.limits v s,
+    ) refl
+
+text-header : (h : Header) (body : List ℕ) → IsVersion h.version → IsValidLimits h.limits
+    → script_of (header_text h.version h.limits ++ body) ≡ lines_from h.limits (opening h) 2 (pieces body)
+text-header h body a v =
+    let line : List ℕ = codes "ept" ++ spaced (header_words h.version h.limits) in
+    let p : pieces (header_text h.version h.limits ++ body) ≡ line ∷ pieces body =
     ap pieces (append_assoc line (10 ∷ []) body)
-    ∙ pieces-spaced (codes "ept") (header_words l) body refl (ink-header l (are-small l v)) in
-    let r : header_from 1 (line ∷ pieces body) ≡ lines_from l (opening l) 2 (pieces body) =
-    rw (slice_split-full (λ byte. byte == 10) body, read-header l v) refl in
+    ∙ pieces-spaced (codes "ept") (header_words h.version h.limits) body refl
+    (ink-header h.version h.limits (low-version h.version a) (are-small h.limits v)) in
+    let r : header_from 1 (line ∷ pieces body) ≡ lines_from h.limits (opening h) 2 (pieces body) =
+    rw (slice_split-full (λ byte. byte == 10) body, read-header h a v) refl in
     ap (header_from 1) p ∙ r
 
 pub read-back : PrintedIsReadBack
 read-back s v =
-    let each : All (IsValidPhase s.limits.mutators) (v.phases ++ v.last ∷ []) = rw v.split at v.each in
+    let header : Header = record { version = s.version; limits = s.limits } in
+    let each : All (IsValidPhase s.version s.limits.mutators) (v.phases ++ v.last ∷ []) = rw v.split at v.each in
     let few : operations_of (v.phases ++ v.last ∷ []) ≤ most_operations = rw v.split at v.operations in
-    let start : Counts = record { mutators = s.limits.mutators; in_cycle = false; operations = 0; meets = 0 } in
-    let result : (p : List Phase) → Result Script ScriptErr = λ p. Ok (record { limits = s.limits; phases = p }) in
-    text-header s.limits (flat_map phase_text s.phases) v.limits
-    ∙ ap (λ phases. lines_from s.limits (opening s.limits) 2 (pieces (flat_map phase_text phases))) v.split
+    let start : Counts = record { version = s.version; mutators = s.limits.mutators; in_cycle = false; operations = 0; meets = 0 } in
+    let result : (p : List Phase) → Result Script ScriptErr = λ p. Ok (record { version = s.version; limits = s.limits; phases = p }) in
+    text-header header (flat_map phase_text s.phases) v.version v.limits
+    ∙ ap (λ phases. lines_from s.limits (opening header) 2 (pieces (flat_map phase_text phases))) v.split
     ∙ lines-phases s.limits [] start 2 v.phases v.last each v.limits.mutators.1 (omega arith) (omega (arith, v.meets))
     v.cycles v.ends
     ∙ ap result (sym v.split)

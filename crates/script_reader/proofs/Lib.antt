@@ -9,3 +9,4 @@ pub mod OpLines
 pub mod Sorting
 pub mod Rereading
 pub mod HeaderLine
+pub mod Upgrading

@@ -12,7 +12,7 @@ use Rattle.script_reader.specs.declared.lines.Line.TheVariants as line
 use Rattle.script_reader.specs.declared.draft.Draft.{Draft}
 use Rattle.script_reader.specs.Spelling.{pieces}
 use Rattle.script_reader.specs.Lines.{is_skipped, line_of}
-use Rattle.script_reader.specs.Header.{limits_of}
+use Rattle.script_reader.specs.Header.{header_of}
 use Rattle.script_reader.specs.Grammar.{bad_behind, end_at, ended, go_on, header_from, is_empty, lines_from, opening, refusal_at, script_of, with_line}
 
 abbrev Named : Result Script ScriptErr → Type 0
@@ -67,7 +67,7 @@ header_from-named n [] = header-named
 header_from-named n (piece ∷ rest) =
     cond-named (is_empty rest) _ _ header-named
     (cond-named (is_skipped piece) _ _ (header_from-named (n + 1) rest)
-    (option_map_or-named _ (limits_of piece) _ (λ limits. lines_from-named limits (opening limits) (n + 1) rest)
+    (option_map_or-named _ (header_of piece) _ (λ h. lines_from-named h.limits (opening h) (n + 1) rest)
     header-named))
 
 pub script_of-named : (text : List ℕ) → script_of text ≡ Err refusal.OutOfMemory → ⊥

@@ -1,13 +1,15 @@
 -- Each word of the canonical text says what was printed.
-use Rattle.std.proofs.Common.{◌≡◌, ℕ, zero, suc, ◌+◌, ◌-◌, ◌*◌, ◌/◌, ◌%◌, ◌^◌, ◌==◌, ◌<◌, ◌≤◌, nat_lt, nat_le, true, false, cond, List, [], ◌∷◌, ◌++◌, length, get_or, Some, None, refl, ◌∙◌, ap, arith, count_ones, lit<, length-append, eq-eqb}
-use Rattle.std.specs.Option.{option_and_then}
+use Rattle.std.proofs.Common.{◌≡◌, ◌≢◌, inl, inr, ℕ, zero, suc, ◌+◌, ◌-◌, ◌*◌, ◌/◌, ◌%◌, ◌^◌, ◌==◌, ◌<◌, ◌≤◌, nat_lt, nat_le, true, false, cond, List, [], ◌∷◌, ◌++◌, codes, length, get_or, Some, None, refl, ◌∙◌, ap, arith, count_ones, lit<, length-append, eq-eqb, ne_eqb}
+use Rattle.std.proofs.lemmas.Bool.{cases_eq}
+use Rattle.std.specs.Option.{option_and_then, option_map}
 use Rattle.std.specs.Fmt.{decimal, digit_glyph}
 use Rattle.std.proofs.lemmas.Grind.{common_steps, pow_more}
 use Rattle.std.proofs.lemmas.Bool.Decides.{nat_tests}
 use Rattle.std.proofs.lemmas.Fmt.{decimal_digit, decimal_by_steps, length-decimal-le, first_decimal}
-use Rattle.plain_table.specs.Rows.{IsTag}
-use Rattle.script_reader.specs.Spelling.{digit_of, number_onto, variable_of, small_of, hex_of, tag_of}
-use Rattle.script_reader.specs.Canonical.{hex, letter}
+use Rattle.tag_set.specs.Range.{IsRange}
+use Rattle.script_reader.specs.Spelling.{digit_of, number_onto, variable_of, small_of, hex_of, is_tag, tag_of, range_of, range_of_one}
+use Rattle.script_reader.specs.Valid.{IsTagOf, IsRangeOf}
+use Rattle.script_reader.specs.Canonical.{hex, letter, range_word, tag_word}
 use Rattle.script_reader.proofs.Ink.{is_ink, ink-append, ink-byte}
 
 -- a variable's letter
@@ -81,11 +83,81 @@ read-hex k n h =
     let t : (length (hex k n) == k) ≡ true = eq-eqb (length (hex k n)) k (hex-length k n) in
     rw t (hex-number k n h)
 
-pub read-tag : (t : ℕ) → IsTag t → tag_of (hex 2 t) ≡ Some t
-read-tag t h =
+-- a tag
+is-tag : (a t : ℕ) → IsTagOf a t → is_tag a t ≡ true
+is-tag a t h =
+    let some : nat_le 1 t ≡ true = grind (arith, common_steps, nat_tests) in
+    let old : a ≢ 2 → (count_ones t == 4) ≡ true =
+    λ other. elim h.1 [ inl two ↦ absurd (other two) | inr four ↦ eq-eqb (count_ones t) 4 four.1 ] in
+    elim (cases_eq a 2) [
+      | inl two ↦ let v : (a == 2) ≡ true = eq-eqb a 2 two in rw (v, some) refl
+      | inr other ↦ let v : (a == 2) ≡ false = ne_eqb a 2 other in rw (v, old other) refl
+    ]
+
+pub read-tag : (a t : ℕ) → IsTagOf a t → tag_of a (hex 2 t) ≡ Some t
+read-tag a t h =
     let e : hex_of 2 (hex 2 t) ≡ Some t = read-hex 2 t (omega (arith, h.0)) in
-    let o : (count_ones t == 4) ≡ true = eq-eqb (count_ones t) 4 h.1 in
-    rw (e, o) refl
+    rw (e, is-tag a t h) refl
+
+-- the two digits of a byte
+hex-two : (t : ℕ) → hex 2 t ≡ digit_glyph false (t / 16 % 16) ∷ digit_glyph false (t % 16) ∷ []
+unfolding hex
+hex-two t = refl
+
+-- a range of one tag, and one of two
+range-one : (a : ℕ) (d e : ℕ) → range_of a (d ∷ e ∷ []) ≡ option_map range_of_one (tag_of a (d ∷ e ∷ []))
+range-one a d e = refl
+
+read-range_of_one : (a t : ℕ) → IsTagOf a t → range_of a (hex 2 t) ≡ Some (range_of_one t)
+read-range_of_one a t h =
+    let e : tag_of a (digit_glyph false (t / 16 % 16) ∷ digit_glyph false (t % 16) ∷ []) ≡ Some t =
+    rw (hex-two t) at (read-tag a t h) in
+    ap (range_of a) (hex-two t) ∙ ap (option_map range_of_one) e
+
+range-two : (first last : List ℕ) (f l : ℕ) (a b c d : ℕ) → first ≡ a ∷ b ∷ [] → last ≡ c ∷ d ∷ []
+    → tag_of 2 first ≡ Some f → tag_of 2 last ≡ Some l → f < l
+    → range_of 2 (first ++ 45 ∷ last) ≡ Some (record { first = f; last = l })
+range-two first last f l a b c d p q r s h =
+    let t : nat_lt f l ≡ true = grind (arith, common_steps, nat_tests) in
+    let r' : tag_of 2 (a ∷ b ∷ []) ≡ Some f = rw p at r in
+    let s' : tag_of 2 (c ∷ d ∷ []) ≡ Some l = rw q at s in
+    rw (p, q, r', s', t) refl
+
+read-same : (a first last : ℕ) → IsTagOf a first → first ≡ last
+    → range_of a (range_word first last) ≡ Some (record { first = first; last = last })
+read-same a first last h same =
+    let t : (first == last) ≡ true = eq-eqb first last same in
+    let e : range_of a (range_word first last) ≡ range_of a (hex 2 first) = rw t refl in
+    e ∙ read-range_of_one a first h ∙ ap (λ (l : ℕ). Some (record { first = first; last = l })) same
+
+read-apart : (first last : ℕ) → IsRange first last → first ≢ last
+    → range_of 2 (range_word first last) ≡ Some (record { first = first; last = last })
+unfolding hex
+read-apart first last h apart =
+    let t : (first == last) ≡ false = ne_eqb first last apart in
+    let e : range_of 2 (range_word first last) ≡ range_of 2 (hex 2 first ++ 45 ∷ hex 2 last) = rw t refl in
+    e ∙ range-two (hex 2 first) (hex 2 last) first last _ _ _ _ (hex-two first) (hex-two last)
+    (read-tag 2 first (h.0, inl refl)) (read-tag 2 last (h.1, inl refl)) (omega (arith, h.2, apart))
+
+pub read-range : (a first last : ℕ) → IsRangeOf a first last
+    → range_of a (range_word first last) ≡ Some (record { first = first; last = last })
+read-range a first last h =
+    elim h.1 [
+      | inl two ↦ elim (cases_eq first last) [
+        | inl same ↦ read-same a first last (h.0.0, inl two) same
+        | inr apart ↦ rw two (read-apart first last h.0 apart)
+      ]
+      | inr old ↦ read-same a first last (h.0.0, inr old.0) old.1
+    ]
+
+pub ink-range : (first last : ℕ) → is_ink (range_word first last) ≡ true
+unfolding hex
+ink-range first last =
+    elim (first == last) as (λ b. is_ink (cond b (tag_word first) (tag_word first ++ codes "-" ++ tag_word last)) ≡ true) [
+      | true ↦ ink-hex 2 first
+      | false ↦ ink-append (hex 2 first) (45 ∷ hex 2 last) (ink-hex 2 first)
+          (ink-append (45 ∷ []) (hex 2 last) (ink-byte 45 (omega arith)) (ink-hex 2 last))
+    ]
 
 -- decimal digits
 decimal-number : (n : ℕ) → n < 2 ^ 64 → number_onto 10 0 (decimal n) ≡ Some n

@@ -43,7 +43,7 @@ lines-meet : (limits : Limits) (d : Draft) (n : ℕ) (piece rest : List ℕ) (me
 lines-meet limits d n piece rest meet skip said = rw (slice_split-full (λ byte. byte == 10) rest, skip, said) refl
 
 -- an operation
-lines-op : (limits : Limits) (d : Draft) (n m : ℕ) (call : Op) (rest : List ℕ) → IsValidOp call
+lines-op : (limits : Limits) (d : Draft) (n m : ℕ) (call : Op) (rest : List ℕ) → IsValidOp d.counts.version call
     → m < d.counts.mutators → d.counts.mutators ≤ 8 → d.counts.operations < most_operations
     → lines_from limits d n (pieces (op_line m call ++ rest))
     ≡ lines_from limits (with_call d (record { mutator = m; op = call })) (n + 1) (pieces rest)
@@ -51,7 +51,7 @@ lines-op limits d n m call rest valid h b few =
     let text : List ℕ = (codes "m" ++ decimal m) ++ spaced (op_words call) in
     let p : pieces (op_line m call ++ rest) ≡ text ∷ pieces rest =
     ap pieces (append_assoc text (10 ∷ []) rest)
-    ∙ pieces-spaced (codes "m" ++ decimal m) (op_words call) rest (ink-decimal m (omega arith)) (ink-op call valid) in
+    ∙ pieces-spaced (codes "m" ++ decimal m) (op_words call) rest (ink-decimal m (omega arith)) (ink-op d.counts.version call valid) in
     ap (lines_from limits d n) p
     ∙ lines-call limits d n text rest (record { mutator = m; op = call }) refl (line-op d.counts m call valid h b few)
 
@@ -77,7 +77,7 @@ move : (limits : Limits) (d e : Draft) (m n : ℕ) (rest : List ℕ) → d ≡ e
     → lines_from limits d m (pieces rest) ≡ lines_from limits e n (pieces rest)
 move limits d e m n rest p q = rw (p, q) refl
 
-lines-ops : (limits : Limits) (d : Draft) (n m : ℕ) (ops : List Op) (rest : List ℕ) → All IsValidOp ops
+lines-ops : (limits : Limits) (d : Draft) (n m : ℕ) (ops : List Op) (rest : List ℕ) → All (IsValidOp d.counts.version) ops
     → m < d.counts.mutators → d.counts.mutators ≤ 8 → d.counts.operations + length ops ≤ most_operations
     → lines_from limits d n (pieces (ops_text m ops ++ rest))
     ≡ lines_from limits (after_calls d (tagged m ops)) (n + length ops) (pieces rest)
@@ -85,13 +85,13 @@ lines-ops limits d n m [] rest each h b few = move limits d (after_calls d []) n
 lines-ops limits d n m (call ∷ ops) rest each h b few =
     let next : Draft = with_call d (record { mutator = m; op = call }) in
     ap (λ text. lines_from limits d n (pieces text)) (append_assoc (op_line m call) (ops_text m ops) rest)
-    ∙ lines-op limits d n m call (ops_text m ops ++ rest) (All-head IsValidOp call ops each) h b (omega arith)
-    ∙ lines-ops limits next (n + 1) m ops rest (All-tail IsValidOp call ops each) h b (omega arith)
+    ∙ lines-op limits d n m call (ops_text m ops ++ rest) (All-head (IsValidOp d.counts.version) call ops each) h b (omega arith)
+    ∙ lines-ops limits next (n + 1) m ops rest (All-tail (IsValidOp d.counts.version) call ops each) h b (omega arith)
     ∙ move limits (after_calls next (tagged m ops)) (after_calls d (tagged m (call ∷ ops))) (n + 1 + length ops)
     (n + length (call ∷ ops)) rest (after-cons d (record { mutator = m; op = call }) (tagged m ops)) (omega arith)
 
 lines-lists : (limits : Limits) (d : Draft) (n m : ℕ) (lists : List (List Op)) (rest : List ℕ)
-    → All (All IsValidOp) lists → m + length lists ≤ d.counts.mutators → d.counts.mutators ≤ 8
+    → All (All (IsValidOp d.counts.version)) lists → m + length lists ≤ d.counts.mutators → d.counts.mutators ≤ 8
     → d.counts.operations + lists_length lists ≤ most_operations
     → lines_from limits d n (pieces (lists_text m lists ++ rest))
     ≡ lines_from limits (after_calls d (flat m lists)) (n + lists_length lists) (pieces rest)
@@ -99,8 +99,8 @@ lines-lists limits d n m [] rest each h b few = move limits d (after_calls d [])
 lines-lists limits d n m (ops ∷ lists) rest each h b few =
     let next : Draft = after_calls d (tagged m ops) in
     ap (λ text. lines_from limits d n (pieces text)) (append_assoc (ops_text m ops) (lists_text (m + 1) lists) rest)
-    ∙ lines-ops limits d n m ops (lists_text (m + 1) lists ++ rest) (All-head (All IsValidOp) ops lists each) (omega arith) b (omega arith)
-    ∙ lines-lists limits next (n + length ops) (m + 1) lists rest (All-tail (All IsValidOp) ops lists each) (omega arith) b
+    ∙ lines-ops limits d n m ops (lists_text (m + 1) lists ++ rest) (All-head (All (IsValidOp d.counts.version)) ops lists each) (omega arith) b (omega arith)
+    ∙ lines-lists limits next (n + length ops) (m + 1) lists rest (All-tail (All (IsValidOp d.counts.version)) ops lists each) (omega arith) b
     (omega (arith, tagged-length m ops))
     ∙ move limits (after_calls next (flat (m + 1) lists)) (after_calls d (flat m (ops ∷ lists)))
     (n + length ops + lists_length lists) (n + lists_length (ops ∷ lists)) rest
@@ -160,18 +160,18 @@ counts_behind c phase = record c {
   in_cycle = cycle_behind c.in_cycle phase.meet;
 }
 
-sorted : (mutators : ℕ) (phase : Phase) (meet : Meet) → IsValidPhase mutators phase → phase.meet ≡ meet
+sorted : (a mutators : ℕ) (phase : Phase) (meet : Meet) → IsValidPhase a mutators phase → phase.meet ≡ meet
     → phase_of mutators (flat 0 phase.calls) meet ≡ phase
-sorted mutators phase meet valid e = rw (lists-flat mutators phase.calls valid.lists, ← e) refl
+sorted a mutators phase meet valid e = rw (lists-flat mutators phase.calls valid.lists, ← e) refl
 
-behind-phase : (phases : List Phase) (c : Counts) (phase : Phase) → IsValidPhase c.mutators phase
+behind-phase : (phases : List Phase) (c : Counts) (phase : Phase) → IsValidPhase c.version c.mutators phase
     → with_meet (after_calls (fresh phases c) (flat 0 phase.calls)) phase.meet
     ≡ fresh (phases ++ phase ∷ []) (counts_behind c phase)
 behind-phase phases c phase valid =
-    ap (λ p. fresh (phases ++ p ∷ []) (counts_behind c phase)) (sorted c.mutators phase phase.meet valid refl)
+    ap (λ p. fresh (phases ++ p ∷ []) (counts_behind c phase)) (sorted c.version c.mutators phase phase.meet valid refl)
 
 lines-phase : (limits : Limits) (phases : List Phase) (c : Counts) (n : ℕ) (phase : Phase) (rest : List ℕ) (next : Bool)
-    → IsValidPhase c.mutators phase → c.mutators ≤ 8 → c.operations + lists_length phase.calls ≤ most_operations
+    → IsValidPhase c.version c.mutators phase → c.mutators ≤ 8 → c.operations + lists_length phase.calls ≤ most_operations
     → c.meets < most_meets → meet_behind c.in_cycle phase.meet ≡ Some next
     → lines_from limits (fresh phases c) n (pieces (phase_text phase ++ rest))
     ≡ lines_from limits (fresh (phases ++ phase ∷ []) (counts_behind c phase)) (n + lists_length phase.calls + 1) (pieces rest)
@@ -190,15 +190,15 @@ lines-end : (limits : Limits) (d : Draft) (n : ℕ) → d.counts.in_cycle ≡ fa
 lines-end limits d n h = rw h refl
 
 lines-last : (limits : Limits) (phases : List Phase) (c : Counts) (n : ℕ) (last : Phase)
-    → IsValidPhase c.mutators last → c.mutators ≤ 8 → c.operations + lists_length last.calls ≤ most_operations
+    → IsValidPhase c.version c.mutators last → c.mutators ≤ 8 → c.operations + lists_length last.calls ≤ most_operations
     → last.meet ≡ End → c.in_cycle ≡ false
     → lines_from limits (fresh phases c) n (pieces (phase_text last ++ []))
-    ≡ Ok (record { limits = limits; phases = phases ++ last ∷ [] })
+    ≡ Ok (record { version = c.version; limits = limits; phases = phases ++ last ∷ [] })
 lines-last limits phases c n last valid b few ends outside =
     let text : phase_text last ++ [] ≡ lists_text 0 last.calls ++ codes "end\n" =
     append-nil (phase_text last) ∙ ap (λ meet. lists_text 0 last.calls ++ meet_text meet) ends in
-    let made : phase_of c.mutators (flat 0 last.calls) End ≡ last = sorted c.mutators last End valid ends in
-    let result : (p : Phase) → Result Script ScriptErr = λ p. Ok (record { limits = limits; phases = phases ++ p ∷ [] }) in
+    let made : phase_of c.mutators (flat 0 last.calls) End ≡ last = sorted c.version c.mutators last End valid ends in
+    let result : (p : Phase) → Result Script ScriptErr = λ p. Ok (record { version = c.version; limits = limits; phases = phases ++ p ∷ [] }) in
     ap (λ t. lines_from limits (fresh phases c) n (pieces t)) text
     ∙ lines-lists limits (fresh phases c) n 0 last.calls (codes "end\n") valid.each (omega (arith, valid.lists)) b few
     ∙ lines-end limits (after_calls (fresh phases c) (flat 0 last.calls)) (n + lists_length last.calls) outside
@@ -214,22 +214,22 @@ step cycle phase phases h =
     [ None ↦ λ g. absurd cc | Some next ↦ λ g. (next, (refl, g)) ]) h
 
 pub lines-phases : (limits : Limits) (before : List Phase) (c : Counts) (n : ℕ) (phases : List Phase) (last : Phase)
-    → All (IsValidPhase c.mutators) (phases ++ last ∷ []) → c.mutators ≤ 8
+    → All (IsValidPhase c.version c.mutators) (phases ++ last ∷ []) → c.mutators ≤ 8
     → c.operations + operations_of (phases ++ last ∷ []) ≤ most_operations → c.meets + length phases ≤ most_meets
     → meets_behind c.in_cycle phases ≡ Some false → last.meet ≡ End
     → lines_from limits (fresh before c) n (pieces (flat_map phase_text (phases ++ last ∷ [])))
-    ≡ Ok (record { limits = limits; phases = before ++ (phases ++ last ∷ []) })
+    ≡ Ok (record { version = c.version; limits = limits; phases = before ++ (phases ++ last ∷ []) })
 lines-phases limits before c n [] last each b few more cycles ends =
-    lines-last limits before c n last (All-head (IsValidPhase c.mutators) last [] each) b (omega arith) ends cc
+    lines-last limits before c n last (All-head (IsValidPhase c.version c.mutators) last [] each) b (omega arith) ends cc
 lines-phases limits before c n (phase ∷ phases) last each b few more cycles ends =
     let rest : List ℕ = flat_map phase_text (phases ++ last ∷ []) in
     let s = step c.in_cycle phase phases cycles in
-    let valid : IsValidPhase c.mutators phase = All-head (IsValidPhase c.mutators) phase (phases ++ last ∷ []) each in
+    let valid : IsValidPhase c.version c.mutators phase = All-head (IsValidPhase c.version c.mutators) phase (phases ++ last ∷ []) each in
     let turn : cycle_behind c.in_cycle phase.meet ≡ s.0 = cycle-next c.in_cycle s.0 phase.meet s.1.0 in
     let behind : meets_behind (cycle_behind c.in_cycle phase.meet) phases ≡ Some false = rw turn s.1.1 in
-    let result : (p : List Phase) → Result Script ScriptErr = λ p. Ok (record { limits = limits; phases = p }) in
+    let result : (p : List Phase) → Result Script ScriptErr = λ p. Ok (record { version = c.version; limits = limits; phases = p }) in
     lines-phase limits before c n phase rest s.0 valid b (omega arith) (omega arith) s.1.0
     ∙ lines-phases limits (before ++ phase ∷ []) (counts_behind c phase) (n + lists_length phase.calls + 1) phases last
-    (All-tail (IsValidPhase c.mutators) phase (phases ++ last ∷ []) each) b
+    (All-tail (IsValidPhase c.version c.mutators) phase (phases ++ last ∷ []) each) b
     (omega (arith, flat-length 0 phase.calls)) (omega arith) behind ends
     ∙ ap result (append_assoc before (phase ∷ []) (phases ++ last ∷ []))

@@ -1,6 +1,6 @@
 -- The canonical text of a script: the header, and for each phase the operations of mutator 0, of mutator 1 and so on,
 -- a line each, and then the line of its meet.
-use Rattle.std.specs.Prelude.{ℕ, zero, suc, false, ◌+◌, ◌/◌, ◌%◌, List, [], ◌∷◌, ◌++◌, Option, Some, None, codes}
+use Rattle.std.specs.Prelude.{ℕ, zero, suc, false, ◌+◌, ◌/◌, ◌%◌, ◌==◌, if◌then◌else◌, List, [], ◌∷◌, ◌++◌, Option, Some, None, codes}
 use Rattle.std.specs.List.{flat_map}
 use Rattle.std.specs.Fmt.{decimal, digit_glyph}
 use Rattle.plain_table.specs.declared.scripts.Limits.{Limits}
@@ -18,7 +18,7 @@ unfoldable pub hex : ℕ → ℕ → List ℕ
 hex zero n = []
 hex (suc k) n = hex k (n / 16) ++ digit_glyph false (n % 16) ∷ []
 
--- the words of places: a variable's letter, a target, a tag, an index word and a value
+-- the words of places: a variable's letter, a target, a tag, a range of tags, an index word and a value
 abbrev pub letter : ℕ → List ℕ
 letter v = (97 + v) ∷ []
 
@@ -28,6 +28,9 @@ target_word (Some v) = letter v
 
 abbrev pub tag_word : ℕ → List ℕ
 tag_word t = hex 2 t
+
+abbrev pub range_word : ℕ → ℕ → List ℕ
+range_word first last = if first == last then tag_word first else tag_word first ++ codes "-" ++ tag_word last
 
 abbrev pub index_word : ℕ → List ℕ
 index_word w = hex 8 w
@@ -44,17 +47,17 @@ op_words (op.Fetch u v k) = codes "fetch" ∷ letter u ∷ letter v ∷ decimal 
 op_words (op.SetG g t) = codes "setg" ∷ decimal g ∷ target_word t ∷ []
 op_words (op.GetG v g) = codes "getg" ∷ letter v ∷ decimal g ∷ []
 op_words (op.Init v f t x) = codes "init" ∷ letter v ∷ decimal f ∷ tag_word t ∷ value_word x ∷ []
-op_words (op.Load v f t) = codes "load" ∷ letter v ∷ decimal f ∷ tag_word t ∷ []
-op_words (op.Store v f t x) = codes "store" ∷ letter v ∷ decimal f ∷ tag_word t ∷ value_word x ∷ []
-op_words (op.Swap v f t x) = codes "swap" ∷ letter v ∷ decimal f ∷ tag_word t ∷ value_word x ∷ []
+op_words (op.Load v f first last) = codes "load" ∷ letter v ∷ decimal f ∷ range_word first last ∷ []
+op_words (op.Store v f first last x) = codes "store" ∷ letter v ∷ decimal f ∷ range_word first last ∷ value_word x ∷ []
+op_words (op.Swap v f first last x) = codes "swap" ∷ letter v ∷ decimal f ∷ range_word first last ∷ value_word x ∷ []
 op_words (op.Name v f) = codes "name" ∷ letter v ∷ decimal f ∷ []
 op_words (op.Forge v f w) = codes "forge" ∷ letter v ∷ decimal f ∷ index_word w ∷ []
-op_words (op.Raw w t) = codes "raw" ∷ index_word w ∷ tag_word t ∷ []
-op_words (op.RawSet w t x) = codes "rawset" ∷ index_word w ∷ tag_word t ∷ value_word x ∷ []
+op_words (op.Raw w first last) = codes "raw" ∷ index_word w ∷ range_word first last ∷ []
+op_words (op.RawSet w first last x) = codes "rawset" ∷ index_word w ∷ range_word first last ∷ value_word x ∷ []
 op_words (op.TNew v t x) = codes "tnew" ∷ letter v ∷ tag_word t ∷ value_word x ∷ []
 op_words (op.TPub v) = codes "tpub" ∷ letter v ∷ []
-op_words (op.TLoad v t) = codes "tload" ∷ letter v ∷ tag_word t ∷ []
-op_words (op.TRaw w t) = codes "traw" ∷ index_word w ∷ tag_word t ∷ []
+op_words (op.TLoad v first last) = codes "tload" ∷ letter v ∷ range_word first last ∷ []
+op_words (op.TRaw w first last) = codes "traw" ∷ index_word w ∷ range_word first last ∷ []
 op_words (op.Share v u) = codes "share" ∷ letter v ∷ letter u ∷ []
 
 -- words, each behind a space
@@ -90,15 +93,15 @@ abbrev pub phase_text : Phase → List ℕ
 phase_text phase = lists_text 0 phase.calls ++ meet_text phase.meet
 
 -- the header
-abbrev pub header_words : Limits → List (List ℕ)
-header_words l =
-    codes "1" ∷ (codes "seg=" ++ decimal l.seg) ∷ (codes "ext=" ++ decimal l.ext) ∷ (codes "tru=" ++ decimal l.tru)
+abbrev pub header_words : ℕ → Limits → List (List ℕ)
+header_words version l =
+    decimal version ∷ (codes "seg=" ++ decimal l.seg) ∷ (codes "ext=" ++ decimal l.ext) ∷ (codes "tru=" ++ decimal l.tru)
     ∷ (codes "objects=" ++ decimal l.objects) ∷ (codes "mutators=" ++ decimal l.mutators)
     ∷ (codes "markers=" ++ decimal l.markers) ∷ []
 
-abbrev pub header_text : Limits → List ℕ
-header_text l = codes "ept" ++ spaced (header_words l) ++ codes "\n"
+abbrev pub header_text : ℕ → Limits → List ℕ
+header_text version l = codes "ept" ++ spaced (header_words version l) ++ codes "\n"
 
 -- the canonical text
 abbrev pub canonical_of : Script → List ℕ
-canonical_of s = header_text s.limits ++ flat_map phase_text s.phases
+canonical_of s = header_text s.version s.limits ++ flat_map phase_text s.phases

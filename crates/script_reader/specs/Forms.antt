@@ -12,7 +12,7 @@ use Rattle.script_reader.specs.declared.forms.Form.TheVariants as form
 use Rattle.script_reader.specs.declared.forms.Place.{Place}
 use Rattle.script_reader.specs.declared.forms.Place.TheVariants as place
 use Rattle.script_reader.specs.declared.forms.Said.{Said}
-use Rattle.script_reader.specs.Spelling.{variable_of, small_of, tag_of, index_word_of, value_of}
+use Rattle.script_reader.specs.Spelling.{variable_of, small_of, tag_of, range_of, index_word_of, value_of}
 
 -- the names
 abbrev pub form_of : List ℕ → Option Form
@@ -48,17 +48,17 @@ places_of form.Fetch = place.Variable ∷ place.Other ∷ place.Reference ∷ []
 places_of form.SetG = place.Global ∷ place.Target ∷ []
 places_of form.GetG = place.Variable ∷ place.Global ∷ []
 places_of form.Init = place.Variable ∷ place.Field ∷ place.Tag ∷ place.Value ∷ []
-places_of form.Load = place.Variable ∷ place.Field ∷ place.Tag ∷ []
-places_of form.Store = place.Variable ∷ place.Field ∷ place.Tag ∷ place.Value ∷ []
-places_of form.Swap = place.Variable ∷ place.Field ∷ place.Tag ∷ place.Value ∷ []
+places_of form.Load = place.Variable ∷ place.Field ∷ place.Range ∷ []
+places_of form.Store = place.Variable ∷ place.Field ∷ place.Range ∷ place.Value ∷ []
+places_of form.Swap = place.Variable ∷ place.Field ∷ place.Range ∷ place.Value ∷ []
 places_of form.Name = place.Variable ∷ place.Field ∷ []
 places_of form.Forge = place.Variable ∷ place.Field ∷ place.Word ∷ []
-places_of form.Raw = place.Word ∷ place.Tag ∷ []
-places_of form.RawSet = place.Word ∷ place.Tag ∷ place.Value ∷ []
+places_of form.Raw = place.Word ∷ place.Range ∷ []
+places_of form.RawSet = place.Word ∷ place.Range ∷ place.Value ∷ []
 places_of form.TNew = place.Variable ∷ place.Tag ∷ place.Value ∷ []
 places_of form.TPub = place.Variable ∷ []
-places_of form.TLoad = place.Variable ∷ place.Tag ∷ []
-places_of form.TRaw = place.Word ∷ place.Tag ∷ []
+places_of form.TLoad = place.Variable ∷ place.Range ∷ []
+places_of form.TRaw = place.Word ∷ place.Range ∷ []
 places_of form.Share = place.Variable ∷ place.Other ∷ []
 
 -- the operation of a form whose places say this
@@ -70,17 +70,17 @@ op_of form.Fetch s = op.Fetch s.variable s.other s.reference
 op_of form.SetG s = op.SetG s.global s.target
 op_of form.GetG s = op.GetG s.variable s.global
 op_of form.Init s = op.Init s.variable s.field s.tag s.value
-op_of form.Load s = op.Load s.variable s.field s.tag
-op_of form.Store s = op.Store s.variable s.field s.tag s.value
-op_of form.Swap s = op.Swap s.variable s.field s.tag s.value
+op_of form.Load s = op.Load s.variable s.field s.first s.last
+op_of form.Store s = op.Store s.variable s.field s.first s.last s.value
+op_of form.Swap s = op.Swap s.variable s.field s.first s.last s.value
 op_of form.Name s = op.Name s.variable s.field
 op_of form.Forge s = op.Forge s.variable s.field s.word
-op_of form.Raw s = op.Raw s.word s.tag
-op_of form.RawSet s = op.RawSet s.word s.tag s.value
+op_of form.Raw s = op.Raw s.word s.first s.last
+op_of form.RawSet s = op.RawSet s.word s.first s.last s.value
 op_of form.TNew s = op.TNew s.variable s.tag s.value
 op_of form.TPub s = op.TPub s.variable
-op_of form.TLoad s = op.TLoad s.variable s.tag
-op_of form.TRaw s = op.TRaw s.word s.tag
+op_of form.TLoad s = op.TLoad s.variable s.first s.last
+op_of form.TRaw s = op.TRaw s.word s.first s.last
 op_of form.Share s = op.Share s.variable s.other
 
 -- a result's value changed
@@ -105,17 +105,19 @@ ranged bound number said = mapped said (number_below bound number)
 abbrev pub target_of : List ℕ → Option (Option ℕ)
 target_of word = if bytes_eq word (codes "-") then Some None else option_map Some (variable_of word)
 
--- what a word says at a place, beside what the other places say
-abbrev pub read_at : Place → List ℕ → Said → Result Said Fault
-read_at place.Variable word s = spelled BadLine (variable_of word) (λ v. record s { variable = v })
-read_at place.Other word s = spelled BadLine (variable_of word) (λ v. record s { other = v })
-read_at place.Target word s = spelled BadLine (target_of word) (λ t. record s { target = t })
-read_at place.Tag word s = spelled BadTag (tag_of word) (λ t. record s { tag = t })
-read_at place.Word word s = spelled BadNumber (index_word_of word) (λ w. record s { word = w })
-read_at place.Value word s = spelled BadNumber (value_of word) (λ x. record s { value = x })
-read_at place.Reference word s = ranged 4 (small_of word) (λ k. record s { reference = k })
-read_at place.Field word s = ranged 2 (small_of word) (λ f. record s { field = f })
-read_at place.Global word s = ranged 16 (small_of word) (λ g. record s { global = g })
+-- what a word of a script of this version says at a place, beside what the other places say
+abbrev pub read_at : ℕ → Place → List ℕ → Said → Result Said Fault
+read_at version place.Variable word s = spelled BadLine (variable_of word) (λ v. record s { variable = v })
+read_at version place.Other word s = spelled BadLine (variable_of word) (λ v. record s { other = v })
+read_at version place.Target word s = spelled BadLine (target_of word) (λ t. record s { target = t })
+read_at version place.Tag word s = spelled BadTag (tag_of version word) (λ t. record s { tag = t })
+read_at version place.Range word s =
+    spelled BadTag (range_of version word) (λ r. record s { first = r.first; last = r.last })
+read_at version place.Word word s = spelled BadNumber (index_word_of word) (λ w. record s { word = w })
+read_at version place.Value word s = spelled BadNumber (value_of word) (λ x. record s { value = x })
+read_at version place.Reference word s = ranged 4 (small_of word) (λ k. record s { reference = k })
+read_at version place.Field word s = ranged 2 (small_of word) (λ f. record s { field = f })
+read_at version place.Global word s = ranged 16 (small_of word) (λ g. record s { global = g })
 
 -- the mutator's number is below the number of mutators
 abbrev pub read_mutator : ℕ → List ℕ → Said → Result Said Fault
@@ -141,10 +143,11 @@ read_on (Ok said) before behind = behind said
 read_on (Err fault) before behind = Err (first_of fault (behind before))
 
 -- what the words at these places say, just as many: each place's fault counts, and the one tested first is the answer
-abbrev pub read_places : List Place → List (List ℕ) → Said → Result Said Fault
-read_places [] [] s = Ok s
-read_places (place ∷ places) (word ∷ words) s = read_on (read_at place word s) s (read_places places words)
-read_places _ _ s = Err BadLine
+abbrev pub read_places : ℕ → List Place → List (List ℕ) → Said → Result Said Fault
+read_places version [] [] s = Ok s
+read_places version (place ∷ places) (word ∷ words) s =
+    read_on (read_at version place word s) s (read_places version places words)
+read_places version _ _ s = Err BadLine
 
 -- before any place is read: no place of an operation is left so, since each form reads the places that it has
 abbrev pub nothing_said : Said
@@ -157,6 +160,8 @@ nothing_said = record {
   field = 0;
   global = 0;
   tag = 15;
+  first = 15;
+  last = 15;
   word = 0;
   value = 0;
 }

@@ -13,13 +13,14 @@ use Rattle.script_reader.specs.declared.refusals.ScriptErr.{ScriptErr}
 use Rattle.script_reader.specs.declared.refusals.ScriptErr.TheVariants as refusal
 use Rattle.script_reader.specs.declared.refusals.Fault.{Fault}
 use Rattle.script_reader.specs.declared.refusals.Fault.TheVariants.{BadLine, BadTag, BadNumber, OutOfRange, BadMeet, TooMany}
+use Rattle.script_reader.specs.declared.header.Header.{Header}
 use Rattle.script_reader.specs.declared.lines.Call.{Call}
 use Rattle.script_reader.specs.declared.lines.Line.{Line}
 use Rattle.script_reader.specs.declared.lines.Line.TheVariants as line
 use Rattle.script_reader.specs.declared.draft.Draft.{Draft}
 use Rattle.script_reader.specs.Spelling.{pieces}
 use Rattle.script_reader.specs.Lines.{is_skipped, line_of}
-use Rattle.script_reader.specs.Header.{limits_of}
+use Rattle.script_reader.specs.Header.{header_of}
 
 -- a fault as the refusal of a line
 abbrev pub refusal_at : ℕ → Fault → ScriptErr
@@ -77,6 +78,7 @@ with_line d line.Ending = d
 -- the script that ends here
 abbrev pub ended : Limits → Draft → Script
 ended limits d = record {
+  version = d.counts.version;
   limits = limits;
   phases = d.phases ++ phase_of d.counts.mutators d.calls End ∷ [];
 }
@@ -110,12 +112,12 @@ lines_from limits d n (piece ∷ rest) =
     else go_on n (line_of d.counts piece) (end_at (ended limits d) (n + 1) rest)
     (λ said. lines_from limits (with_line d said) (n + 1) rest))
 
--- nothing is read behind the header, and no cycle is under way
-abbrev pub opening : Limits → Draft
-opening limits = record {
+-- nothing is read after the header, and no cycle is under way
+abbrev pub opening : Header → Draft
+opening h = record {
   phases = [];
   calls = [];
-  counts = record { mutators = limits.mutators; in_cycle = false; operations = 0; meets = 0 };
+  counts = record { version = h.version; mutators = h.limits.mutators; in_cycle = false; operations = 0; meets = 0 };
 }
 
 -- the first line that is not skipped is the header
@@ -124,8 +126,7 @@ header_from n [] = Err refusal.BadHeader
 header_from n (piece ∷ rest) =
     if is_empty rest then Err refusal.BadHeader
     else (if is_skipped piece then header_from (n + 1) rest
-    else option_map_or (λ limits. lines_from limits (opening limits) (n + 1) rest) (limits_of piece)
-    (Err refusal.BadHeader))
+    else option_map_or (λ h. lines_from h.limits (opening h) (n + 1) rest) (header_of piece) (Err refusal.BadHeader))
 
 -- the script that a text spells, or its refusal
 abbrev pub script_of : List ℕ → Result Script ScriptErr

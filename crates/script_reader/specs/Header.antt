@@ -1,11 +1,12 @@
--- The header of a script: `ept 1 seg=K ext=E tru=T objects=N mutators=M markers=R`, with six small numbers in their
--- ranges.
+-- The header of a script: `ept A seg=K ext=E tru=T objects=N mutators=M markers=R`, with the version A, which is 1 or 2,
+-- and six small numbers in their ranges.
 use Rattle.std.specs.Prelude.{ℕ, ◌/◌, ◌==◌, nat_le, nat_eq, ◌&&◌, ◌||◌, if◌then◌else◌, Bool, List, [], ◌∷◌, length, codes, drop, Option, Some, None}
-use Rattle.std.specs.Option.{option_and_then}
+use Rattle.std.specs.Option.{option_and_then, option_map}
 use Rattle.std.specs.List.{starts_with}
 use Rattle.std.specs.Str.{bytes_eq}
 use Rattle.plain_table.specs.declared.scripts.Limits.{Limits}
-use Rattle.script_reader.specs.Spelling.{words, small_of}
+use Rattle.script_reader.specs.declared.header.Header.{Header}
+use Rattle.script_reader.specs.Spelling.{words, small_of, when}
 
 -- the small number behind a name and `=`
 abbrev pub named : List ℕ → List ℕ → Option ℕ
@@ -33,7 +34,7 @@ limits_with k e t n m r = record { seg = k; ext = e; tru = t; objects = n; mutat
 abbrev pub limits_within : Limits → Option Limits
 limits_within limits = if are_limits limits then Some limits else None
 
--- the six words behind `ept 1`
+-- the six words after the version
 abbrev pub limits_of_numbers : List ℕ → List ℕ → List ℕ → List ℕ → List ℕ → List ℕ → Option Limits
 limits_of_numbers seg ext tru objects mutators markers =
     option_and_then (λ k. option_and_then (λ e. option_and_then (λ t. option_and_then (λ n. option_and_then (λ m.
@@ -41,13 +42,21 @@ limits_of_numbers seg ext tru objects mutators markers =
     (named (codes "markers=") markers)) (named (codes "mutators=") mutators)) (named (codes "objects=") objects))
     (named (codes "tru=") tru)) (named (codes "ext=") ext)) (named (codes "seg=") seg)
 
-abbrev pub limits_of_words : List (List ℕ) → Option Limits
-limits_of_words (ept ∷ version ∷ seg ∷ ext ∷ tru ∷ objects ∷ mutators ∷ markers ∷ []) =
-    if bytes_eq ept (codes "ept") && bytes_eq version (codes "1")
-    then limits_of_numbers seg ext tru objects mutators markers
-    else None
-limits_of_words _ = None
+-- the version is 1 or 2
+abbrev pub version_of : List ℕ → Option ℕ
+version_of word = option_and_then (λ version. when (version == 1 || version == 2) (Some version)) (small_of word)
 
--- the limits that a header names
-abbrev pub limits_of : List ℕ → Option Limits
-limits_of line = limits_of_words (words line)
+abbrev pub header_with : ℕ → Limits → Header
+header_with version limits = record { version = version; limits = limits }
+
+abbrev pub header_of_words : List (List ℕ) → Option Header
+header_of_words (ept ∷ version ∷ seg ∷ ext ∷ tru ∷ objects ∷ mutators ∷ markers ∷ []) =
+    if bytes_eq ept (codes "ept")
+    then option_and_then (λ v. option_map (header_with v) (limits_of_numbers seg ext tru objects mutators markers))
+    (version_of version)
+    else None
+header_of_words _ = None
+
+-- what a line says as a header: the version and the limits that it names
+abbrev pub header_of : List ℕ → Option Header
+header_of line = header_of_words (words line)

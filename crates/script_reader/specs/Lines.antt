@@ -41,7 +41,7 @@ call_line c form (Ok s) =
 abbrev pub form_line : Counts → List ℕ → List (List ℕ) → Form → Result Line Fault
 form_line c mutator places form =
     call_line c form (read_on (read_mutator c.mutators mutator nothing_said) nothing_said
-    (read_places (places_of form) places))
+    (read_places c.version (places_of form) places))
 
 -- `m` and the mutator's number, the name of a form, and its places
 abbrev pub operation_line : Counts → List ℕ → List (List ℕ) → Result Line Fault

@@ -1,8 +1,10 @@
 -- How the places of a line are spelled: a variable is one letter from a to p, a small number has no leading zero and
--- at most nine digits, and tags, index words and values are lower-case hexadecimal digits of a fixed number.
+-- at most nine digits, and tags, index words and values are lower-case hexadecimal digits of a fixed number. A range of
+-- tags is one tag, or in version 2 two of them with `-` between.
 use Rattle.std.specs.Prelude.{ℕ, ◌+◌, ◌-◌, ◌*◌, ◌==◌, nat_lt, nat_le, ◌&&◌, if◌then◌else◌, Bool, List, [], ◌∷◌, length, Option, Some, None, count_ones}
-use Rattle.std.specs.Option.{option_and_then}
+use Rattle.std.specs.Option.{option_and_then, option_map}
 use Rattle.std.specs.List.{slice_split}
+use Rattle.tag_set.specs.Range.{TagRange}
 
 -- the parts of a line between its spaces, and the parts of a text between its ends of line
 abbrev pub words : List ℕ → List (List ℕ)
@@ -44,9 +46,29 @@ small_of (first ∷ more) =
 abbrev pub hex_of : ℕ → List ℕ → Option ℕ
 hex_of digits word = when (length word == digits) (number_onto 16 0 word)
 
--- two hexadecimal digits of a byte with exactly four set bits
-abbrev pub tag_of : List ℕ → Option ℕ
-tag_of word = option_and_then (λ byte. when (count_ones byte == 4) (Some byte)) (hex_of 2 word)
+-- in version 2 a tag is any byte but 0, and in version 1 one with exactly four set bits
+abbrev pub is_tag : ℕ → ℕ → Bool
+is_tag version byte = if version == 2 then nat_le 1 byte else count_ones byte == 4
+
+-- two hexadecimal digits of a tag
+abbrev pub tag_of : ℕ → List ℕ → Option ℕ
+tag_of version word = option_and_then (λ byte. when (is_tag version byte) (Some byte)) (hex_of 2 word)
+
+-- the range of one tag, and that of two where the first is below the last
+abbrev pub range_of_one : ℕ → TagRange
+range_of_one tag = record { first = tag; last = tag }
+
+abbrev pub range_of_two : ℕ → ℕ → Option TagRange
+range_of_two first last = if nat_lt first last then Some (record { first = first; last = last }) else None
+
+-- a tag, for the range of one; in version 2 also two tags with `-` between, for the range of two
+abbrev pub range_of : ℕ → List ℕ → Option TagRange
+range_of version (a ∷ b ∷ dash ∷ c ∷ d ∷ []) =
+    if version == 2 && dash == 45
+    then option_and_then (λ first. option_and_then (λ last. range_of_two first last) (tag_of version (c ∷ d ∷ [])))
+    (tag_of version (a ∷ b ∷ []))
+    else None
+range_of version word = option_map range_of_one (tag_of version word)
 
 -- an index word has eight hexadecimal digits, and a value twelve
 abbrev pub index_word_of : List ℕ → Option ℕ

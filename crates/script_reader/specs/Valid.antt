@@ -9,8 +9,13 @@ use Rattle.plain_table.specs.declared.scripts.Meet.{Meet}
 use Rattle.plain_table.specs.declared.scripts.Meet.TheVariants.{Plain, Start, Finish, End}
 use Rattle.plain_table.specs.declared.scripts.Phase.{Phase}
 use Rattle.plain_table.specs.declared.scripts.Script.{Script}
-use Rattle.plain_table.specs.Rows.{IsTag}
+use Rattle.tag_set.specs.Tag.{IsTag, IsOldTag}
+use Rattle.tag_set.specs.Range.{IsRange}
 use Rattle.script_reader.specs.Lines.{most_operations, most_meets}
+
+-- there are two versions
+abbrev pub IsVersion : ℕ → Type 0
+IsVersion version = (version ≡ 1) ⊎ (version ≡ 2)
 
 -- limits in their ranges
 pub record IsValidLimits (limits : Limits) : Type 0 where
@@ -34,32 +39,40 @@ IsValue x = x < 2 ^ 48
 abbrev pub IsWord : ℕ → Type 0
 IsWord w = w < 2 ^ 32
 
+-- a tag of a version: in version 2 any tag, and in version 1 an old one
+abbrev pub IsTagOf : ℕ → ℕ → Type 0
+IsTagOf version tag = IsTag tag × ((version ≡ 2) ⊎ IsOldTag tag)
+
+-- a range of tags of a version: in version 2 any range, and in version 1 that of one old tag
+abbrev pub IsRangeOf : ℕ → ℕ → ℕ → Type 0
+IsRangeOf version first last = IsRange first last × ((version ≡ 2) ⊎ (IsOldTag first × (first ≡ last)))
+
 -- one row an operation
-abbrev pub IsValidOp : Op → Type 0
-IsValidOp (op.New v) = IsVariable v
-IsValidOp (op.Drop v) = IsVariable v
-IsValidOp (op.Link v k t) = IsVariable v × (k < 4) × IsTarget t
-IsValidOp (op.Fetch u v k) = IsVariable u × IsVariable v × (k < 4)
-IsValidOp (op.SetG g t) = (g < 16) × IsTarget t
-IsValidOp (op.GetG v g) = IsVariable v × (g < 16)
-IsValidOp (op.Init v f t x) = IsVariable v × (f < 2) × IsTag t × IsValue x
-IsValidOp (op.Load v f t) = IsVariable v × (f < 2) × IsTag t
-IsValidOp (op.Store v f t x) = IsVariable v × (f < 2) × IsTag t × IsValue x
-IsValidOp (op.Swap v f t x) = IsVariable v × (f < 2) × IsTag t × IsValue x
-IsValidOp (op.Name v f) = IsVariable v × (f < 2)
-IsValidOp (op.Forge v f w) = IsVariable v × (f < 2) × IsWord w
-IsValidOp (op.Raw w t) = IsWord w × IsTag t
-IsValidOp (op.RawSet w t x) = IsWord w × IsTag t × IsValue x
-IsValidOp (op.TNew v t x) = IsVariable v × IsTag t × IsValue x
-IsValidOp (op.TPub v) = IsVariable v
-IsValidOp (op.TLoad v t) = IsVariable v × IsTag t
-IsValidOp (op.TRaw w t) = IsWord w × IsTag t
-IsValidOp (op.Share v u) = IsVariable v × IsVariable u
+abbrev pub IsValidOp : ℕ → Op → Type 0
+IsValidOp version (op.New v) = IsVariable v
+IsValidOp version (op.Drop v) = IsVariable v
+IsValidOp version (op.Link v k t) = IsVariable v × (k < 4) × IsTarget t
+IsValidOp version (op.Fetch u v k) = IsVariable u × IsVariable v × (k < 4)
+IsValidOp version (op.SetG g t) = (g < 16) × IsTarget t
+IsValidOp version (op.GetG v g) = IsVariable v × (g < 16)
+IsValidOp version (op.Init v f t x) = IsVariable v × (f < 2) × IsTagOf version t × IsValue x
+IsValidOp version (op.Load v f first last) = IsVariable v × (f < 2) × IsRangeOf version first last
+IsValidOp version (op.Store v f first last x) = IsVariable v × (f < 2) × IsRangeOf version first last × IsValue x
+IsValidOp version (op.Swap v f first last x) = IsVariable v × (f < 2) × IsRangeOf version first last × IsValue x
+IsValidOp version (op.Name v f) = IsVariable v × (f < 2)
+IsValidOp version (op.Forge v f w) = IsVariable v × (f < 2) × IsWord w
+IsValidOp version (op.Raw w first last) = IsWord w × IsRangeOf version first last
+IsValidOp version (op.RawSet w first last x) = IsWord w × IsRangeOf version first last × IsValue x
+IsValidOp version (op.TNew v t x) = IsVariable v × IsTagOf version t × IsValue x
+IsValidOp version (op.TPub v) = IsVariable v
+IsValidOp version (op.TLoad v first last) = IsVariable v × IsRangeOf version first last
+IsValidOp version (op.TRaw w first last) = IsWord w × IsRangeOf version first last
+IsValidOp version (op.Share v u) = IsVariable v × IsVariable u
 
 -- a phase has one list of valid operations for each mutator
-pub record IsValidPhase (mutators : ℕ) (phase : Phase) : Type 0 where
+pub record IsValidPhase (version mutators : ℕ) (phase : Phase) : Type 0 where
   pub lists : length phase.calls ≡ mutators
-  pub each : All (All IsValidOp) phase.calls
+  pub each : All (All (IsValidOp version)) phase.calls
 
 -- whether a cycle is under way behind a meet that may stand there; the end is no meet between phases
 abbrev pub meet_behind : Bool → Meet → Option Bool
@@ -85,8 +98,9 @@ operations_of (phase ∷ phases) = lists_length phase.calls + operations_of phas
 
 -- a valid script: its last phase, and no other, ends the script; the cycles before it are started and finished in turn
 pub record IsValidScript (script : Script) : Type 0 where
+  pub version : IsVersion script.version
   pub limits : IsValidLimits script.limits
-  pub each : All (IsValidPhase script.limits.mutators) script.phases
+  pub each : All (IsValidPhase script.version script.limits.mutators) script.phases
   pub phases : List Phase
   pub last : Phase
   pub split : script.phases ≡ phases ++ last ∷ []

@@ -5,8 +5,9 @@ ghost use Rattle.std.specs.List.{All};
 ghost use Rattle.script_reader.specs.Grammar.{cycle_behind, ended, lists_of, opening, ops_of, with_call, with_line, with_meet};
 ghost use Rattle.script_reader.specs.Lines.{most_meets, most_operations};
 ghost use Rattle.script_reader.specs.Reading.{IsCall, IsDraft, IsLine};
-ghost use Rattle.script_reader.specs.Valid.{IsValidLimits, IsValidScript};
+ghost use Rattle.script_reader.specs.Valid.{IsValidLimits, IsValidScript, IsVersion};
 
+use crate::header::Header;
 use crate::lines::{Call, Counts, Line};
 use plain_table::{Limits, Meet, Op, Phase, Script};
 use sqlite_items::Items;
@@ -46,15 +47,17 @@ fn lists(alloc: Global, mutators: u32, calls: &[Call]) -> Result<Items<Items<Op>
 
 impl Draft {
     /// Nothing is read behind the header (`opening`).
-    pub fn new(alloc: Global, limits: Limits) -> Draft
-        ensures value { result ≡ opening limits }
-        ensures valid { IsDraft limits result }
+    pub fn new(alloc: Global, header: Header) -> Draft
+        requires { IsVersion header.version }
+        ensures value { result ≡ opening header }
+        ensures valid { IsDraft header.limits result }
     {
         Draft {
             phases: Items::new(alloc),
             calls: Items::new(alloc),
             counts: Counts {
-                mutators: limits.mutators,
+                version: header.version,
+                mutators: header.limits.mutators,
                 in_cycle: false,
                 operations: 0,
                 meets: 0,
@@ -65,7 +68,7 @@ impl Draft {
     /// The draft behind an operation (`with_call`). The only error is want of memory.
     fn with_call(self, limits: Limits, call: Call) -> Result<Draft, AllocError>
         requires draft { IsDraft limits self }
-        requires call { IsCall limits.mutators call }
+        requires call { IsCall self.counts.version limits.mutators call }
         requires few { self.counts.operations < most_operations }
         ensures value { IfOk result (λ draft. draft ≡ with_call self call) }
         ensures valid { IfOk result (IsDraft limits) }
@@ -144,7 +147,11 @@ impl Draft {
             calls,
             meet: Meet::End,
         })?;
-        Ok(Script { limits, phases })
+        Ok(Script {
+            version: counts.version,
+            limits,
+            phases,
+        })
     }
 }
 

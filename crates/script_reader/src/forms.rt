@@ -1,6 +1,6 @@
 // The forms of operations, and the reading of their places. Each function computes the definition of
 // `specs/Forms.antt` that its contract names.
-ghost use Rattle.std.specs.Prelude.{◌≡◌, ◌<◌, [], IfOk, IfSome, Err};
+ghost use Rattle.std.specs.Prelude.{◌≡◌, ◌<◌, ℕ, [], IfOk, IfSome, Err};
 ghost use Rattle.std.specs.Option.{option_map_or};
 ghost use Rattle.script_reader.specs.Spelling.{small_of, words};
 ghost use Rattle.script_reader.specs.Valid.{IsTarget, IsValidOp};
@@ -8,7 +8,7 @@ ghost use Rattle.script_reader.specs.Reading.{IsSaid};
 ghost use Rattle.script_reader.specs.Forms.{first_of, form_of, nothing_said, number_below, op_of, places_of, read_at, read_mutator, read_on, read_places, target_of};
 
 use crate::refusals::Fault;
-use crate::words::{index_word, next_word, small, tag, value, variable};
+use crate::words::{index_word, next_word, range, small, tag, value, variable};
 use plain_table::Op;
 
 /// The form of an operation, by its name.
@@ -50,6 +50,8 @@ pub enum Place {
     /// A small number below 16.
     Global,
     Tag,
+    /// A range of tags.
+    Range,
     Word,
     Value,
 }
@@ -65,6 +67,8 @@ pub struct Said {
     pub field: u32,
     pub global: u32,
     pub tag: u8,
+    pub first: u8,
+    pub last: u8,
     pub word: u32,
     pub value: u64,
 }
@@ -126,25 +130,24 @@ fn places(form: Form) -> &'static [Place]
         Form::Fetch => &[Place::Variable, Place::Other, Place::Reference],
         Form::SetG => &[Place::Global, Place::Target],
         Form::GetG => &[Place::Variable, Place::Global],
-        Form::Init | Form::Store | Form::Swap => {
-            &[Place::Variable, Place::Field, Place::Tag, Place::Value]
-        }
-        Form::Load => &[Place::Variable, Place::Field, Place::Tag],
+        Form::Init => &[Place::Variable, Place::Field, Place::Tag, Place::Value],
+        Form::Load => &[Place::Variable, Place::Field, Place::Range],
+        Form::Store | Form::Swap => &[Place::Variable, Place::Field, Place::Range, Place::Value],
         Form::Name => &[Place::Variable, Place::Field],
         Form::Forge => &[Place::Variable, Place::Field, Place::Word],
-        Form::Raw | Form::TRaw => &[Place::Word, Place::Tag],
-        Form::RawSet => &[Place::Word, Place::Tag, Place::Value],
+        Form::Raw | Form::TRaw => &[Place::Word, Place::Range],
+        Form::RawSet => &[Place::Word, Place::Range, Place::Value],
         Form::TNew => &[Place::Variable, Place::Tag, Place::Value],
-        Form::TLoad => &[Place::Variable, Place::Tag],
+        Form::TLoad => &[Place::Variable, Place::Range],
         Form::Share => &[Place::Variable, Place::Other],
     }
 }
 
 /// The operation of a form whose places say this (`op_of`).
-pub fn operation(form: Form, said: Said) -> Op
-    requires { IsSaid said }
+pub fn operation(version: u32, form: Form, said: Said) -> Op
+    requires { IsSaid version said }
     ensures value { result ≡ op_of form said }
-    ensures valid { IsValidOp result }
+    ensures valid { IsValidOp version result }
 {
     let var = said.variable;
     let Said {
@@ -154,6 +157,8 @@ pub fn operation(form: Form, said: Said) -> Op
         global: g,
         reference: k,
         tag,
+        first,
+        last,
         word,
         value,
         ..
@@ -170,17 +175,39 @@ pub fn operation(form: Form, said: Said) -> Op
         Form::SetG => Op::SetG { g, target },
         Form::GetG => Op::GetG { into: var, g },
         Form::Init => Op::Init { var, f, tag, value },
-        Form::Load => Op::Load { var, f, tag },
-        Form::Store => Op::Store { var, f, tag, value },
-        Form::Swap => Op::Swap { var, f, tag, value },
+        Form::Load => Op::Load {
+            var,
+            f,
+            first,
+            last,
+        },
+        Form::Store => Op::Store {
+            var,
+            f,
+            first,
+            last,
+            value,
+        },
+        Form::Swap => Op::Swap {
+            var,
+            f,
+            first,
+            last,
+            value,
+        },
         Form::Name => Op::Name { var, f },
         Form::Forge => Op::Forge { var, f, word },
-        Form::Raw => Op::Raw { word, tag },
-        Form::RawSet => Op::RawSet { word, tag, value },
+        Form::Raw => Op::Raw { word, first, last },
+        Form::RawSet => Op::RawSet {
+            word,
+            first,
+            last,
+            value,
+        },
         Form::TNew => Op::TNew { var, tag, value },
         Form::TPub => Op::TPub { var },
-        Form::TLoad => Op::TLoad { var, tag },
-        Form::TRaw => Op::TRaw { word, tag },
+        Form::TLoad => Op::TLoad { var, first, last },
+        Form::TRaw => Op::TRaw { word, first, last },
         Form::Share => Op::Share {
             from: var,
             to: other,
@@ -191,7 +218,7 @@ pub fn operation(form: Form, said: Said) -> Op
 /// Before any place is read (`nothing_said`).
 fn nothing() -> Said
     ensures value { result ≡ nothing_said }
-    ensures valid { IsSaid result }
+    ensures valid { (version : ℕ) → IsSaid version result }
 {
     Said {
         mutator: 0,
@@ -202,6 +229,8 @@ fn nothing() -> Said
         field: 0,
         global: 0,
         tag: 15,
+        first: 15,
+        last: 15,
         word: 0,
         value: 0,
     }
@@ -232,10 +261,10 @@ fn ranged_number(bound: u32, word: &[u8]) -> Result<u32, Fault>
 }
 
 /// What a word says at a place, beside what the other places say (`read_at`).
-fn read_at(place: Place, word: &[u8], said: Said) -> Result<Said, Fault>
-    requires { IsSaid said }
-    ensures value { result ≡ read_at place word.now said }
-    ensures valid { IfOk result IsSaid }
+fn read_at(version: u32, place: Place, word: &[u8], said: Said) -> Result<Said, Fault>
+    requires { IsSaid version said }
+    ensures value { result ≡ read_at version place word.now said }
+    ensures valid { IfOk result (IsSaid version) }
     ensures same { IfOk result (λ s. s.mutator ≡ said.mutator) }
 {
     match place {
@@ -264,9 +293,10 @@ fn read_at(place: Place, word: &[u8], said: Said) -> Result<Said, Fault>
             ..said
         }),
         Place::Tag => Ok(Said {
-            tag: tag(word).ok_or(Fault::BadTag)?,
+            tag: tag(version, word).ok_or(Fault::BadTag)?.byte(),
             ..said
         }),
+        Place::Range => read_range(version, word, said),
         Place::Word => Ok(Said {
             word: index_word(word).ok_or(Fault::BadNumber)?,
             ..said
@@ -276,6 +306,21 @@ fn read_at(place: Place, word: &[u8], said: Said) -> Result<Said, Fault>
             ..said
         }),
     }
+}
+
+/// What a word says at the place of a range (`read_at`).
+fn read_range(version: u32, word: &[u8], said: Said) -> Result<Said, Fault>
+    requires { IsSaid version said }
+    ensures value { result ≡ read_at version Place.Range word.now said }
+    ensures valid { IfOk result (IsSaid version) }
+    ensures same { IfOk result (λ s. s.mutator ≡ said.mutator) }
+{
+    let range = range(version, word).ok_or(Fault::BadTag)?;
+    Ok(Said {
+        first: range.first().byte(),
+        last: range.last().byte(),
+        ..said
+    })
 }
 
 /// Of a place's fault and the one of the places behind it, where they have one, the one that is tested first
@@ -296,10 +341,10 @@ fn first_fault(fault: Fault, behind: Result<Said, Fault>) -> Fault
 }
 
 /// What the words of a line say at these places (`read_places`).
-fn read_all(places: &[Place], rest: Option<&[u8]>, said: Said) -> Result<Said, Fault>
-    requires { IsSaid said }
-    ensures value { result ≡ read_places places.now (option_map_or (λ r. words r.now) rest.entry []) said }
-    ensures valid { IfOk result IsSaid }
+fn read_all(version: u32, places: &[Place], rest: Option<&[u8]>, said: Said) -> Result<Said, Fault>
+    requires { IsSaid version said }
+    ensures value { result ≡ read_places version places.now (option_map_or (λ r. words r.now) rest.entry []) said }
+    ensures valid { IfOk result (IsSaid version) }
     ensures same { IfOk result (λ s. s.mutator ≡ said.mutator) }
 {
     match places {
@@ -312,19 +357,19 @@ fn read_all(places: &[Place], rest: Option<&[u8]>, said: Said) -> Result<Said, F
                 return Err(Fault::BadLine);
             };
             let (word, behind) = next_word(text);
-            match read_at(*place, word, said) {
-                Ok(next) => read_all(more, behind, next),
-                Err(fault) => Err(first_fault(fault, read_all(more, behind, said))),
+            match read_at(version, *place, word, said) {
+                Ok(next) => read_all(version, more, behind, next),
+                Err(fault) => Err(first_fault(fault, read_all(version, more, behind, said))),
             }
         }
     }
 }
 
 /// The number of a mutator below `mutators` (`read_mutator`).
-fn read_number(mutators: u32, word: &[u8], said: Said) -> Result<Said, Fault>
-    requires { IsSaid said }
+fn read_number(version: u32, mutators: u32, word: &[u8], said: Said) -> Result<Said, Fault>
+    requires { IsSaid version said }
     ensures value { result ≡ read_mutator mutators word.now said }
-    ensures valid { IfOk result (λ s. IsSaid s × (s.mutator < mutators)) }
+    ensures valid { IfOk result (λ s. IsSaid version s × (s.mutator < mutators)) }
 {
     Ok(Said {
         mutator: ranged_number(mutators, word)?,
@@ -334,18 +379,19 @@ fn read_number(mutators: u32, word: &[u8], said: Said) -> Result<Said, Fault>
 
 /// Reads the mutator's number and the places of a form in one.
 pub fn read_said(
+    version: u32,
     mutators: u32,
     mutator: &[u8],
     form: Form,
     rest: Option<&[u8]>,
 ) -> Result<Said, Fault>
     ensures value { result ≡ read_on (read_mutator mutators mutator.now nothing_said) nothing_said
-        (read_places (places_of form) (option_map_or (λ r. words r.now) rest.entry [])) }
-    ensures valid { IfOk result (λ s. IsSaid s × (s.mutator < mutators)) }
+        (read_places version (places_of form) (option_map_or (λ r. words r.now) rest.entry [])) }
+    ensures valid { IfOk result (λ s. IsSaid version s × (s.mutator < mutators)) }
 {
     let nothing = nothing();
-    match read_number(mutators, mutator, nothing) {
-        Ok(said) => read_all(places(form), rest, said),
-        Err(fault) => Err(first_fault(fault, read_all(places(form), rest, nothing))),
+    match read_number(version, mutators, mutator, nothing) {
+        Ok(said) => read_all(version, places(form), rest, said),
+        Err(fault) => Err(first_fault(fault, read_all(version, places(form), rest, nothing))),
     }
 }

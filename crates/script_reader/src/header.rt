@@ -1,12 +1,32 @@
 // The header of a script. Each function computes the definition of `specs/Header.antt` that its contract names.
-ghost use Rattle.std.specs.Prelude.{◌≡◌, [], ◌∷◌, List, ℕ, None, IfSome, IfNone, ◌&&◌, codes};
-ghost use Rattle.std.specs.Str.{bytes_eq};
+ghost use Rattle.std.specs.Prelude.{◌≡◌, [], ◌∷◌, List, ℕ, None, IfSome, IfNone};
 ghost use Rattle.script_reader.specs.Spelling.{words};
-ghost use Rattle.script_reader.specs.Header.{are_others, are_segments, limits_of, limits_of_numbers, limits_with, limits_within, named};
-ghost use Rattle.script_reader.specs.Valid.{IsValidLimits};
+ghost use Rattle.script_reader.specs.Header.{are_others, are_segments, header_of, limits_of_numbers, limits_with, limits_within, named, version_of};
+ghost use Rattle.script_reader.specs.Reading.{IsValidHeader};
+ghost use Rattle.script_reader.specs.Valid.{IsValidLimits, IsVersion};
 
 use crate::words::{small, split_word};
 use plain_table::Limits;
+
+/// What a header says.
+#[derive(Clone, Copy, Debug, PartialEq, Eq)]
+pub struct Header {
+    /// 1 or 2.
+    pub version: u32,
+    pub limits: Limits,
+}
+
+/// The version (`version_of`): the small number 1 or 2.
+fn read_version(word: &[u8]) -> Option<u32>
+    ensures value { result ≡ version_of word.now }
+    ensures valid { IfSome result IsVersion }
+{
+    match small(word)? {
+        1 => Some(1),
+        2 => Some(2),
+        _ => None,
+    }
+}
 
 /// The small number behind a name, with which the word must begin (`named`). The name has its `=` at the end.
 fn named_number(name: &[u8], word: &[u8]) -> Option<u64>
@@ -78,7 +98,7 @@ impl Numbers {
 
 /// The words of a header.
 #[derive(Clone, Copy)]
-struct Header<'a> {
+struct HeaderWords<'a> {
     ept: &'a [u8],
     version: &'a [u8],
     seg: &'a [u8],
@@ -89,14 +109,7 @@ struct Header<'a> {
     markers: &'a [u8],
 }
 
-impl Header<'_> {
-    /// Whether the first two words are `ept 1`.
-    fn is_first(&self) -> bool
-        ensures { result ≡ (bytes_eq self.now.ept.now (codes "ept") && bytes_eq self.now.version.now (codes "1")) }
-    {
-        self.ept == b"ept".as_slice() && self.version == b"1".as_slice()
-    }
-
+impl HeaderWords<'_> {
     /// The six numbers, each behind its name. `None` where one of them is missing or misspelled.
     fn numbers(&self) -> Option<Numbers>
         ensures value { IfSome result (λ n. limits_of_numbers self.now.seg.now self.now.ext.now self.now.tru.now
@@ -134,10 +147,10 @@ fn last_word(line: &[u8]) -> Option<&[u8]>
 }
 
 /// Splits a line into the eight words of a header. `None` where it has more or fewer.
-fn split_header(line: &[u8]) -> Option<Header>
+fn split_header(line: &[u8]) -> Option<HeaderWords>
     ensures split { IfSome result (λ h. words line.now ≡ h.ept.now ∷ h.version.now ∷ h.seg.now ∷ h.ext.now
         ∷ h.tru.now ∷ h.objects.now ∷ h.mutators.now ∷ h.markers.now ∷ []) }
-    ensures other { IfNone result (limits_of line.now ≡ None) }
+    ensures other { IfNone result (header_of line.now ≡ None) }
 {
     let (ept, rest) = split_word(line)?;
     let (version, rest) = split_word(rest)?;
@@ -147,7 +160,7 @@ fn split_header(line: &[u8]) -> Option<Header>
     let (objects, rest) = split_word(rest)?;
     let (mutators, rest) = split_word(rest)?;
     let markers = last_word(rest)?;
-    Some(Header {
+    Some(HeaderWords {
         ept,
         version,
         seg,
@@ -159,15 +172,16 @@ fn split_header(line: &[u8]) -> Option<Header>
     })
 }
 
-/// Reads the header (`limits_of`). `None` where the line is none.
-pub fn read_limits(line: &[u8]) -> Option<Limits>
-    ensures value { result ≡ limits_of line.now }
-    ensures valid { IfSome result IsValidLimits }
+/// Reads the header (`header_of`). `None` where the line is none.
+pub fn read_header(line: &[u8]) -> Option<Header>
+    ensures value { result ≡ header_of line.now }
+    ensures valid { IfSome result IsValidHeader }
 {
-    let header = split_header(line)?;
-    if header.is_first() {
-        header.numbers()?.limits()
-    } else {
-        None
+    let words = split_header(line)?;
+    if words.ept != b"ept".as_slice() {
+        return None;
     }
+    let version = read_version(words.version)?;
+    let limits = words.numbers()?.limits()?;
+    Some(Header { version, limits })
 }

@@ -17,7 +17,7 @@ mod reader;
 mod refusals;
 mod words;
 
-pub use law::printed_is_read_back;
+pub use law::{printed_is_read_back, upgrade, upgraded_is_valid};
 pub use printer::print;
 pub use reader::parse;
 pub use refusals::{OutOfMemory, ScriptErr};

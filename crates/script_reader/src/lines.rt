@@ -34,10 +34,11 @@ pub enum Line {
     Ending,
 }
 
-/// What stands before a line: how many mutators the header names, whether a cycle is under way, and how many
-/// operations and meets there were.
+/// What stands before a line: the version and the number of mutators that the header names, whether a cycle is under
+/// way, and how many operations and meets there were.
 #[derive(Clone, Copy, Debug, PartialEq, Eq)]
 pub struct Counts {
+    pub version: u32,
     pub mutators: u32,
     pub in_cycle: bool,
     pub operations: u32,
@@ -79,11 +80,11 @@ fn read_form(
     ensures value { result ≡ form_line counts mutator.now (option_map_or (λ r. words r.now) places.entry []) form }
     ensures valid { IfOk result (IsLine counts) }
 {
-    let said = read_said(counts.mutators, mutator, form, places)?;
+    let said = read_said(counts.version, counts.mutators, mutator, form, places)?;
     if counts.operations < MOST_OPERATIONS {
         Ok(Line::Operation(Call {
             mutator: said.mutator,
-            op: operation(form, said),
+            op: operation(counts.version, form, said),
         }))
     } else {
         Err(Fault::TooMany)

@@ -1,9 +1,9 @@
 // The canonical text of a script, appended to one `String` piece by piece. What stands where is defined in
 // `specs/Canonical.antt`; each word of an operation stands behind a space.
-ghost use Rattle.std.specs.Prelude.{◌≡◌, ◌++◌, ◌<◌, [], ◌∷◌, false, codes, IfOk, OnOk, string_bytes};
+ghost use Rattle.std.specs.Prelude.{◌≡◌, ℕ, ◌++◌, ◌<◌, [], ◌∷◌, false, codes, IfOk, OnOk, string_bytes};
 ghost use Rattle.std.specs.List.{All, flat_map};
 ghost use Rattle.std.specs.Fmt.{decimal, digit_glyph};
-ghost use Rattle.script_reader.specs.Canonical.{canonical_of, header_text, hex, index_word, letter, lists_text, meet_text, op_line, op_words, ops_text, phase_text, policy_word, spaced, tag_word, target_word, value_word};
+ghost use Rattle.script_reader.specs.Canonical.{canonical_of, header_text, hex, index_word, letter, lists_text, meet_text, op_line, op_words, ops_text, phase_text, policy_word, range_word, spaced, tag_word, target_word, value_word};
 ghost use Rattle.script_reader.specs.Valid.{IsTarget, IsValidOp, IsValidPhase, IsValidScript, IsVariable};
 
 use crate::refusals::OutOfMemory;
@@ -18,14 +18,14 @@ pub fn print(alloc: Global, script: &Script) -> Result<String, OutOfMemory>
     ensures { IfOk result (λ text. string_bytes text ≡ canonical_of script.now) }
 {
     let mut text = String::new(alloc);
-    push_header(&mut text, script.limits)?;
-    push_phases(&mut text, script.limits.mutators, script.phases.as_slice())?;
+    push_header(&mut text, script.version, script.limits)?;
+    push_phases(&mut text, script.phases.as_slice())?;
     Ok(text)
 }
 
 // The header.
-fn push_header(text: &mut String, limits: Limits) -> Result<(), AllocError>
-    ensures { OnOk result (string_bytes text.new ≡ string_bytes text.old ++ header_text limits) }
+fn push_header(text: &mut String, version: u32, limits: Limits) -> Result<(), AllocError>
+    ensures { OnOk result (string_bytes text.new ≡ string_bytes text.old ++ header_text version limits) }
 {
     let Limits {
         seg,
@@ -37,13 +37,13 @@ fn push_header(text: &mut String, limits: Limits) -> Result<(), AllocError>
     } = limits;
     write!(
         text,
-        "ept 1 seg={seg} ext={ext} tru={tru} objects={objects} mutators={mutators} markers={markers}\n"
+        "ept {version} seg={seg} ext={ext} tru={tru} objects={objects} mutators={mutators} markers={markers}\n"
     )
 }
 
 // The phases, each with its operations and then its meet.
-fn push_phases(text: &mut String, mutators: u32, phases: &[Phase]) -> Result<(), AllocError>
-    requires { All (IsValidPhase mutators) phases.now }
+fn push_phases(text: &mut String, phases: &[Phase]) -> Result<(), AllocError>
+    requires { (version mutators : ℕ) × All (IsValidPhase version mutators) phases.now }
     ensures { OnOk result (string_bytes text.new ≡ string_bytes text.old ++ flat_map phase_text phases.now) }
 {
     for phase in phases {
@@ -55,7 +55,7 @@ fn push_phases(text: &mut String, mutators: u32, phases: &[Phase]) -> Result<(),
 
 // The operations of each mutator, those of mutator 0 first.
 fn push_lists(text: &mut String, lists: &[Items<Op>]) -> Result<(), AllocError>
-    requires { All (All IsValidOp) lists.now }
+    requires { (version : ℕ) × All (All (IsValidOp version)) lists.now }
     ensures { OnOk result (string_bytes text.new ≡ string_bytes text.old ++ lists_text 0 lists.now) }
 {
     for (mutator, ops) in lists.iter().enumerate() {
@@ -65,7 +65,7 @@ fn push_lists(text: &mut String, lists: &[Items<Op>]) -> Result<(), AllocError>
 }
 
 fn push_ops(text: &mut String, mutator: usize, ops: &[Op]) -> Result<(), AllocError>
-    requires { All IsValidOp ops.now }
+    requires { (version : ℕ) × All (IsValidOp version) ops.now }
     ensures { OnOk result (string_bytes text.new ≡ string_bytes text.old ++ ops_text mutator ops.now) }
 {
     for op in ops {
@@ -75,7 +75,7 @@ fn push_ops(text: &mut String, mutator: usize, ops: &[Op]) -> Result<(), AllocEr
 }
 
 fn push_line(text: &mut String, mutator: usize, op: Op) -> Result<(), AllocError>
-    requires { IsValidOp op }
+    requires { (version : ℕ) × IsValidOp version op }
     ensures { OnOk result (string_bytes text.new ≡ string_bytes text.old ++ op_line mutator op) }
 {
     write!(text, "m{mutator}")?;
@@ -84,7 +84,7 @@ fn push_line(text: &mut String, mutator: usize, op: Op) -> Result<(), AllocError
 }
 
 fn push_op(text: &mut String, op: Op) -> Result<(), AllocError>
-    requires { IsValidOp op }
+    requires { (version : ℕ) × IsValidOp version op }
     ensures { OnOk result (string_bytes text.new ≡ string_bytes text.old ++ spaced (op_words op)) }
 {
     match op {
@@ -94,18 +94,40 @@ fn push_op(text: &mut String, op: Op) -> Result<(), AllocError>
         Op::Fetch { into, var, k } => push_fetch(text, into, var, k),
         Op::SetG { g, target } => push_set_global(text, g, target),
         Op::GetG { into, g } => push_field(text, "getg", into, g),
-        Op::Init { var, f, tag, value } => push_access(text, "init", var, f, tag, value),
-        Op::Load { var, f, tag } => push_load(text, var, f, tag),
-        Op::Store { var, f, tag, value } => push_access(text, "store", var, f, tag, value),
-        Op::Swap { var, f, tag, value } => push_access(text, "swap", var, f, tag, value),
+        Op::Init { var, f, tag, value } => push_init(text, var, f, tag, value),
+        Op::Load {
+            var,
+            f,
+            first,
+            last,
+        } => push_load(text, var, f, first, last),
+        Op::Store {
+            var,
+            f,
+            first,
+            last,
+            value,
+        } => push_access(text, "store", var, f, first, last, value),
+        Op::Swap {
+            var,
+            f,
+            first,
+            last,
+            value,
+        } => push_access(text, "swap", var, f, first, last, value),
         Op::Name { var, f } => push_field(text, "name", var, f),
         Op::Forge { var, f, word } => push_forge(text, var, f, word),
-        Op::Raw { word, tag } => push_raw(text, "raw", word, tag),
-        Op::RawSet { word, tag, value } => push_raw_set(text, word, tag, value),
+        Op::Raw { word, first, last } => push_raw(text, "raw", word, first, last),
+        Op::RawSet {
+            word,
+            first,
+            last,
+            value,
+        } => push_raw_set(text, word, first, last, value),
         Op::TNew { var, tag, value } => push_trusted(text, var, tag, value),
         Op::TPub { var } => push_variable(text, "tpub", var),
-        Op::TLoad { var, tag } => push_trusted_load(text, var, tag),
-        Op::TRaw { word, tag } => push_raw(text, "traw", word, tag),
+        Op::TLoad { var, first, last } => push_trusted_load(text, var, first, last),
+        Op::TRaw { word, first, last } => push_raw(text, "traw", word, first, last),
         Op::Share { from, to } => push_share(text, from, to),
     }
 }
@@ -158,30 +180,41 @@ fn push_field(text: &mut String, name: &str, var: u32, number: u32) -> Result<()
     push_small(text, number)
 }
 
+fn push_init(text: &mut String, var: u32, f: u32, tag: u8, value: u64) -> Result<(), AllocError>
+    requires { IsVariable var }
+    ensures { OnOk result (string_bytes text.new ≡ string_bytes text.old
+        ++ spaced (codes "init" ∷ letter var ∷ decimal f ∷ tag_word tag ∷ value_word value ∷ [])) }
+{
+    push_field(text, "init", var, f)?;
+    push_digits(text, 2, u64::from(tag))?;
+    push_digits(text, 12, value)
+}
+
 fn push_access(
     text: &mut String,
     name: &str,
     var: u32,
     f: u32,
-    tag: u8,
+    first: u8,
+    last: u8,
     value: u64,
 ) -> Result<(), AllocError>
     requires { IsVariable var }
     ensures { OnOk result (string_bytes text.new ≡ string_bytes text.old
-        ++ spaced (name.now ∷ letter var ∷ decimal f ∷ tag_word tag ∷ value_word value ∷ [])) }
+        ++ spaced (name.now ∷ letter var ∷ decimal f ∷ range_word first last ∷ value_word value ∷ [])) }
 {
     push_field(text, name, var, f)?;
-    push_digits(text, 2, u64::from(tag))?;
+    push_range(text, first, last)?;
     push_digits(text, 12, value)
 }
 
-fn push_load(text: &mut String, var: u32, f: u32, tag: u8) -> Result<(), AllocError>
+fn push_load(text: &mut String, var: u32, f: u32, first: u8, last: u8) -> Result<(), AllocError>
     requires { IsVariable var }
     ensures { OnOk result (string_bytes text.new ≡ string_bytes text.old
-        ++ spaced (codes "load" ∷ letter var ∷ decimal f ∷ tag_word tag ∷ [])) }
+        ++ spaced (codes "load" ∷ letter var ∷ decimal f ∷ range_word first last ∷ [])) }
 {
     push_field(text, "load", var, f)?;
-    push_digits(text, 2, u64::from(tag))
+    push_range(text, first, last)
 }
 
 fn push_forge(text: &mut String, var: u32, f: u32, word: u32) -> Result<(), AllocError>
@@ -193,20 +226,26 @@ fn push_forge(text: &mut String, var: u32, f: u32, word: u32) -> Result<(), Allo
     push_digits(text, 8, u64::from(word))
 }
 
-fn push_raw(text: &mut String, name: &str, word: u32, tag: u8) -> Result<(), AllocError>
+fn push_raw(text: &mut String, name: &str, word: u32, first: u8, last: u8) -> Result<(), AllocError>
     ensures { OnOk result (string_bytes text.new ≡ string_bytes text.old
-        ++ spaced (name.now ∷ index_word word ∷ tag_word tag ∷ [])) }
+        ++ spaced (name.now ∷ index_word word ∷ range_word first last ∷ [])) }
 {
     push_name(text, name)?;
     push_digits(text, 8, u64::from(word))?;
-    push_digits(text, 2, u64::from(tag))
+    push_range(text, first, last)
 }
 
-fn push_raw_set(text: &mut String, word: u32, tag: u8, value: u64) -> Result<(), AllocError>
+fn push_raw_set(
+    text: &mut String,
+    word: u32,
+    first: u8,
+    last: u8,
+    value: u64,
+) -> Result<(), AllocError>
     ensures { OnOk result (string_bytes text.new ≡ string_bytes text.old
-        ++ spaced (codes "rawset" ∷ index_word word ∷ tag_word tag ∷ value_word value ∷ [])) }
+        ++ spaced (codes "rawset" ∷ index_word word ∷ range_word first last ∷ value_word value ∷ [])) }
 {
-    push_raw(text, "rawset", word, tag)?;
+    push_raw(text, "rawset", word, first, last)?;
     push_digits(text, 12, value)
 }
 
@@ -220,13 +259,13 @@ fn push_trusted(text: &mut String, var: u32, tag: u8, value: u64) -> Result<(), 
     push_digits(text, 12, value)
 }
 
-fn push_trusted_load(text: &mut String, var: u32, tag: u8) -> Result<(), AllocError>
+fn push_trusted_load(text: &mut String, var: u32, first: u8, last: u8) -> Result<(), AllocError>
     requires { IsVariable var }
     ensures { OnOk result (string_bytes text.new ≡ string_bytes text.old
-        ++ spaced (codes "tload" ∷ letter var ∷ tag_word tag ∷ [])) }
+        ++ spaced (codes "tload" ∷ letter var ∷ range_word first last ∷ [])) }
 {
     push_variable(text, "tload", var)?;
-    push_digits(text, 2, u64::from(tag))
+    push_range(text, first, last)
 }
 
 fn push_share(text: &mut String, from: u32, to: u32) -> Result<(), AllocError>
@@ -276,6 +315,18 @@ fn push_small(text: &mut String, number: u32) -> Result<(), AllocError>
     ensures { OnOk result (string_bytes text.new ≡ string_bytes text.old ++ 32 ∷ decimal number) }
 {
     write!(text, " {number}")
+}
+
+// A range of tags: its first, and where it has more than one, `-` and its last.
+fn push_range(text: &mut String, first: u8, last: u8) -> Result<(), AllocError>
+    ensures { OnOk result (string_bytes text.new ≡ string_bytes text.old ++ 32 ∷ range_word first last) }
+{
+    push_digits(text, 2, u64::from(first))?;
+    if first == last {
+        return Ok(());
+    }
+    text.push_str("-")?;
+    push_hex(text, 2, u64::from(last))
 }
 
 fn push_digits(text: &mut String, digits: u8, number: u64) -> Result<(), AllocError>

@@ -1,11 +1,13 @@
 // The parts of a text, and what a word of a line spells. Each function computes the definition of
 // `specs/Spelling.antt` that its contract names.
-ghost use Rattle.std.specs.Prelude.{◌≡◌, ◌<◌, ◌≤◌, ◌^◌, ◌==◌, length, false, [], ◌∷◌, IfSome, IfNone};
+ghost use Rattle.std.specs.Prelude.{◌≡◌, ◌<◌, ◌≤◌, ◌^◌, ◌==◌, length, false, [], ◌∷◌, Some, IfSome, IfNone};
 ghost use Rattle.std.specs.List.{position, slice_split};
 ghost use Rattle.std.specs.Option.{option_map_or};
-ghost use Rattle.plain_table.specs.Rows.{IsTag};
 ghost use Rattle.script_reader.specs.Grammar.{is_empty};
-ghost use Rattle.script_reader.specs.Spelling.{digit_of, index_word_of, number_onto, pieces, small_of, tag_of, value_of, variable_of, words};
+ghost use Rattle.script_reader.specs.Spelling.{digit_of, index_word_of, is_tag, number_onto, pieces, range_of, range_of_two, small_of, tag_of, value_of, variable_of, when, words};
+ghost use Rattle.script_reader.specs.Valid.{IsRangeOf, IsTagOf};
+
+use tag_set::{Range, Tag};
 
 /// The most digits of a number, in base 16.
 const MOST_DIGITS: usize = 12;
@@ -115,19 +117,55 @@ pub fn small(word: &[u8]) -> Option<u64>
     }
 }
 
-/// A tag (`tag_of`): two hexadecimal digits of a byte with exactly four set bits.
-pub fn tag(word: &[u8]) -> Option<u8>
-    ensures value { result ≡ tag_of word.now }
-    ensures tag { IfSome result IsTag }
+/// The tag of a byte, where it is one in this version (`is_tag`).
+fn version_tag(version: u32, byte: u8) -> Option<Tag>
+    ensures value { result ≡ when (is_tag version byte) (Some byte) }
+    ensures tag { IfSome result (IsTagOf version) }
 {
-    if word.len() != 2 {
-        return None;
+    if version == 2 {
+        Tag::of(byte)
+    } else {
+        Tag::old(byte)
     }
-    let byte = number(16, word)? as u8;
-    if byte.count_ones() == 4 {
-        Some(byte)
+}
+
+/// A tag of a script of this version (`tag_of`): two hexadecimal digits.
+pub fn tag(version: u32, word: &[u8]) -> Option<Tag>
+    ensures value { result ≡ tag_of version word.now }
+    ensures tag { IfSome result (IsTagOf version) }
+{
+    if word.len() == 2 {
+        version_tag(version, number(16, word)? as u8)
     } else {
         None
+    }
+}
+
+/// The range of two tags, of which the first is below the last (`range_of_two`).
+fn range_of_two(first: Tag, last: Tag) -> Option<Range>
+    ensures { result ≡ range_of_two first last }
+{
+    if first.byte() < last.byte() {
+        Range::of(first, last)
+    } else {
+        None
+    }
+}
+
+/// A range of tags of a script of this version (`range_of`): one tag, or in version 2 two with `-` between.
+pub fn range(version: u32, word: &[u8]) -> Option<Range>
+    ensures value { result ≡ range_of version word.now }
+    ensures range { IfSome result (λ range. IsRangeOf version range.first range.last) }
+{
+    match word {
+        [a, b, dash, c, d] => {
+            if version == 2 && *dash == b'-' {
+                range_of_two(tag(version, &[*a, *b])?, tag(version, &[*c, *d])?)
+            } else {
+                None
+            }
+        }
+        _ => Some(Range::one(tag(version, word)?)),
     }
 }
 

@@ -2,8 +2,6 @@ pub mod Acts
 pub mod TakesFind
 pub mod IdsAt
 pub mod ClaimReads
-pub mod OpeningSound
-pub mod OpeningShows
 pub mod UsedPlaces
 pub mod PlacedFields
 pub mod KeepsUsed

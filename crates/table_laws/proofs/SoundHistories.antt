@@ -5,7 +5,8 @@ use Rattle.plain_table.specs.declared.events.Event.{Event}
 use Rattle.plain_table.specs.Table.{Table, opening}
 use Rattle.plain_table.specs.History.{IsLegalHistory, next, after}
 use Rattle.plain_table.specs.Sound.{IsSound}
-use Rattle.table_laws.specs.Laws.{OpeningsAreSound, EventsKeepSoundness, HistoriesAreSound}
+use Rattle.plain_table.specs.Openings.{OpeningsAreSound}
+use Rattle.table_laws.specs.Laws.{EventsKeepSoundness, HistoriesAreSound}
 
 pub IsSound-after : EventsKeepSoundness → (es : List Event) (s : Table) → IsSound s → IsLegalHistory s es → IsSound (after s es)
 IsSound-after keeps [] s sound legal = sound

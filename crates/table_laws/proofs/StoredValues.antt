@@ -23,7 +23,8 @@ use Rattle.plain_table.specs.Rows.{row, is_asked, seen_under, object_in, free_be
 use Rattle.plain_table.specs.History.{IsLegalHistory, next, after}
 use Rattle.plain_table.specs.Sound.{IdsSound, IsSound}
 use Rattle.table_laws.specs.Stored.{Stored, store_at, stored_next, stored_behind, nothing_stored}
-use Rattle.table_laws.specs.Laws.{OpeningsAreSound, EventsKeepSoundness, HoldersReadTheirOwn, ValuesWereStored}
+use Rattle.plain_table.specs.Openings.{OpeningsAreSound}
+use Rattle.table_laws.specs.Laws.{EventsKeepSoundness, HoldersReadTheirOwn, ValuesWereStored}
 use Rattle.plain_table.proofs.PlaceReads.{read_entry, put_at-same, put_at-other}
 use Rattle.table_laws.proofs.FinishMoves.{swept-from}
 use Rattle.plain_table.proofs.Options.{IsSomeAnd-is}

@@ -25,20 +25,9 @@ use Rattle.plain_table.specs.Belongs.{Belongs, Part}
 use Rattle.plain_table.specs.Holders.{IsLiveHolder}
 use Rattle.plain_table.specs.History.{IsLegal, IsLegalHistory, next, after}
 use Rattle.plain_table.specs.Sound.{IsSound}
-use Rattle.plain_table.specs.Shows.{Image, ImageShows, IsFreshImage, IsLawful}
 use Rattle.table_laws.specs.Steady.{IsBeside, IsSteady}
 use Rattle.table_laws.specs.Stored.{stored_behind, nothing_stored}
 use Rattle.table_laws.specs.Causes.{AreBeside, HasCause}
-
--- the opening is sound
-abbrev pub OpeningsAreSound : Type 0
-OpeningsAreSound = (limits : Limits) → IsInRange limits → IsSound (opening limits)
-
--- an image with the contents of a fresh one shows the opening of a table with its sizes, and is lawful
-abbrev pub FreshImagesShowTheOpening : Type 0
-FreshImagesShowTheOpening =
-    (limits : Limits) (image : Image) → IsInRange limits → image.sizes ≡ (opening limits).sizes → IsFreshImage image →
-    ImageShows image (opening limits) × IsLawful image
 
 -- soundness is kept: behind each legal event of any sound table stands a sound table
 abbrev pub EventsKeepSoundness : Type 0

@@ -5,6 +5,7 @@
 //! (`Steady.antt`), what was last stored in a cell (`Stored.antt`), and why a finish keeps a cell (`Causes.antt`).
 #![tactic(auto)]
 
+ghost use Rattle.plain_table.specs.Openings.{FreshImagesShowTheOpening, OpeningsAreSound};
 ghost use Rattle.table_laws.specs.Laws.{
   CellsMoveToTheirTarget,
   CellsStandAtTheirPlace,
@@ -12,12 +13,10 @@ ghost use Rattle.table_laws.specs.Laws.{
   EventsKeepSoundness,
   FinishesArePrecise,
   FinishesCannotBeRefused,
-  FreshImagesShowTheOpening,
   HistoriesAreSound,
   HoldersKeepTheirIndex,
   HoldersReadTheirOwn,
   HoldersStayLive,
-  OpeningsAreSound,
   ReachOnlyGrowsByNew,
   TakesFindTheLeast,
   TargetsAreTheGreatest,

@@ -166,6 +166,7 @@ plays_full e var f tag value o held low full s h =
           (sym (h.variables var ∙ held)) (inl (refl, refl));
       alone = (refl, tt);
       held = sym (ap (λ (t : Table). t.vars 0) behind);
+      own = refl;
       puts = sym (add-zero e.used);
       shows = subst (λ (t : Table). Shows e t) (sym behind) h;
     }
@@ -195,6 +196,7 @@ plays_taken old new var f tag value o found fills small pair held read taken sam
           (sym holds) (inr (old.used, refl));
       alone = (refl, (refl, (refl, tt)));
       held = sym (ap (λ (t : Table). t.vars 0) behind);
+      own = refl;
       puts = fills.used;
       shows = subst (λ (t : Table). Shows new t) (sym behind) (record {
         limit = shown.limit;
@@ -248,6 +250,7 @@ plays_init old new var f tag value o fills small pair held read within made s h 
           (sym holds) (inr (old.used, refl));
       alone = (refl, (refl, (refl, tt)));
       held = sym (ap (λ (t : Table). t.vars 0) behind);
+      own = refl;
       puts = fills.used;
       shows = subst (λ (t : Table). Shows new t) (sym behind) (record {
         limit = shown.limit;

@@ -15,11 +15,11 @@ use Rattle.plain_table.specs.Places.{object_of}
 use Rattle.plain_table.specs.Table.{Table}
 use Rattle.plain_table.specs.Rows.{Holds, IsTag, look, seen_under}
 use Rattle.plain_table.specs.Shapes.{event, external_field, IsEmptyCall, IsLoad}
-use Rattle.tag_set.specs.Strip.{strip_of}
+use Rattle.tag_set.specs.Strip.{IsStripped, tag_byte}
 use Rattle.table_run.specs.declared.engine.Engine.{Engine}
 use Rattle.table_run.specs.Engine.{Shows, Plays}
 use Rattle.table_run.specs.EngineParts.{EntryShows}
-use Rattle.table_run.proofs.EntryWords.{seen_under-strip_of}
+use Rattle.table_run.proofs.EntryWords.{seen_under-stripped}
 
 -- an external field is its object's
 pub object_of-external_field : (o f : ℕ) → f < 2 → object_of (external_field o f) ≡ o
@@ -45,25 +45,27 @@ plays_name e var f o w small pair held read s h =
       shape = subst (λ (x : Option ℕ). MatchOption x (IsEmptyCall (reply.Word w) (event 0 (Name (external_field o f)) (reply.Word w) ∷ [])) (λ x. IsName x f (reply.Word w) (event 0 (Name (external_field o f)) (reply.Word w) ∷ []))) (sym holds) refl;
       alone = (refl, tt);
       held = refl;
+      own = refl;
       puts = sym (add-zero e.used);
       shows = h;
     }
 
 -- a load by a field: its name, and a look at its word
-pub plays_load : (e : Engine) (var f tag o w : ℕ) (said : Reply) → var < 16 → f < 2 → get_or e.variables var None ≡ Some o →
+pub plays_load : (e : Engine) (var f first last o w : ℕ) (said : Reply) → var < 16 → f < 2 → get_or e.variables var None ≡ Some o →
     w ≡ get_or e.fields.items (2 * o + f) 0 →
-    (s : Table) → Shows e s → said ≡ look s External w tag → Plays e e s (op.Load var f tag) said
-plays_load e var f tag o w said small pair held read s h seen =
+    (s : Table) → Shows e s → said ≡ look s External w first last → Plays e e s (op.Load var f first last) said
+plays_load e var f first last o w said small pair held read s h seen =
     let holds : s.vars 0 var ≡ Some o = h.variables var ∙ held in
     record {
-      events = event 0 (Name (external_field o f)) (reply.Word w) ∷ event 0 (Look External w tag) said ∷ [];
+      events = event 0 (Name (external_field o f)) (reply.Word w) ∷ event 0 (Look External w first last) said ∷ [];
       legal = ((holds_field s var f o small pair holds, ap reply.Word (read ∙ sym (h.words (2 * o + f)))), ((tt, seen), tt));
       shape = subst (λ (x : Option ℕ). MatchOption x
-          (IsEmptyCall said (event 0 (Name (external_field o f)) (reply.Word w) ∷ event 0 (Look External w tag) said ∷ []))
-          (λ x. IsLoad 0 External (external_field x f) tag said (event 0 (Name (external_field o f)) (reply.Word w) ∷ event 0 (Look External w tag) said ∷ [])))
+          (IsEmptyCall said (event 0 (Name (external_field o f)) (reply.Word w) ∷ event 0 (Look External w first last) said ∷ []))
+          (λ x. IsLoad 0 External (external_field x f) first last said (event 0 (Name (external_field o f)) (reply.Word w) ∷ event 0 (Look External w first last) said ∷ [])))
           (sym holds) (w, refl);
       alone = (refl, (refl, tt));
       held = refl;
+      own = refl;
       puts = sym (add-zero e.used);
       shows = h;
     }
@@ -96,12 +98,19 @@ read_at v i j w read within same =
     len v = v.ok.0
 
 -- the answer of a look at an entry that is there
-pub look-shown : (e : Engine) (s : Table) → Shows e s → (word tag w : ℕ) (said : Reply) → IsTag tag →
-    index_of word ≢ 0 → index_of word < vec_len e.entries → w ≡ get_or e.entries.items (index_of word) 0 →
-    said ≡ option_map_or reply.Value (strip_of w tag) reply.Fault → said ≡ look s External word tag
-look-shown e s h word tag w said is some within read answers =
+pub look-shown : (e : Engine) (s : Table) → Shows e s → (word first last w : ℕ) (answer : Option ℕ) (said : Reply) →
+    IsStripped w first last answer → index_of word ≢ 0 → index_of word < vec_len e.entries →
+    w ≡ get_or e.entries.items (index_of word) 0 → said ≡ option_map_or reply.Value answer reply.Fault →
+    said ≡ look s External word first last
+look-shown e s h word first last w answer said stripped some within read answers =
     let some_word : w ≢ 0 = λ none. h.filled (index_of word) (omega arith) within (sym read ∙ none) in
     answers
-    ∙ seen_under-strip_of w tag is some_word (s.cells External (index_of word))
+    ∙ seen_under-stripped w first last answer stripped some_word (s.cells External (index_of word))
     (subst (λ (n : ℕ). EntryShows n (s.cells External (index_of word))) (sym read) (h.cells (index_of word)))
-    ∙ sym (ap (λ (b : Bool). if b then reply.Null else seen_under (s.cells External (index_of word)) tag) (ne_eqb (index_of word) 0 some))
+    ∙ sym (ap (λ (b : Bool). if b then reply.Null else seen_under (s.cells External (index_of word)) first last) (ne_eqb (index_of word) 0 some))
+
+-- a look that answers a value stripped a word with a tag
+pub le-stripped : (w first last v : ℕ) (answer : Option ℕ) → IsStripped w first last answer → 1 ≤ first →
+    option_map_or reply.Value answer reply.Fault ≡ reply.Value v → 1 ≤ tag_byte w
+le-stripped w first last v None stripped low is = absurd (cc)
+le-stripped w first last v (Some x) stripped low is = let above : first ≤ tag_byte w = stripped.0.0 in omega arith

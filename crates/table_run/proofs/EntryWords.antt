@@ -1,60 +1,75 @@
 -- Entry words and the cells that they show: a strip of a word answers what its cell does, a decoded word tells whether
 -- a cell stands there, and one word written shows the new cell.
 use Rattle.std.proofs.Common.{◌≡◌, ◌≢◌, ◌↔◌, ℕ, zero, suc, ◌^◌, ◌<◌, ◌≤◌, Bool, true, false, List, Option, Some, None, length, get_or, set, refl, sym, ◌∙◌, ap, subst, arith, inl, inr, eq-eqb, ne_eqb, get_or-set_same, get_or-set_other}
-use Rattle.std.specs.Prelude.{if◌then◌else◌, ◌==◌, ◌&&◌, is_some, count_ones, IsTrue}
+use Rattle.std.specs.Prelude.{if◌then◌else◌, ◌&&◌, ◌/◌, ◌%◌, nat_le, is_some, IsTrue}
 use Rattle.std.specs.Option.{option_map, option_map_or, SomeIff}
-use lib.Count.{ones}
-use Rattle.std.proofs.lemmas.Bool.{cases_eq}
+use Rattle.std.proofs.lemmas.Bool.{cases_Bool, cases_eq, and_from, and_parts}
 use Rattle.plain_table.specs.declared.events.Cell.{Cell}
 use Rattle.plain_table.specs.declared.reports.Reply.TheVariants as reply
 use Rattle.plain_table.specs.Places.{put_at}
-use Rattle.plain_table.specs.Rows.{IsTag, seen_under, value_at}
+use Rattle.plain_table.specs.Rows.{is_asked, seen_under, value_at}
 use Rattle.plain_table.proofs.PlaceReads.{put_at-same, put_at-other}
 use Rattle.entry_word.specs.declared.Entry.{Entry}
 use Rattle.entry_word.specs.declared.Entry.TheVariants.{Null, NoAccess, Free, Evac, Regular, Unshown}
 use Rattle.entry_word.specs.Entry.{IsValid, entry_word}
-use Rattle.tag_set.specs.Strip.{strip_of}
-use Rattle.tag_set.proofs.StrippedWords.{strip_of-regular, strip_of-unmarked_flagged}
+use Rattle.tag_set.specs.Range.{IsWithin}
+use Rattle.tag_set.specs.Strip.{IsStripped, tag_byte}
+use Rattle.tag_set.proofs.StrippedWords.{stripped-regular, stripped-unmarked_flagged}
 use Rattle.table_run.specs.EngineParts.{EntryShows, IsCellWord, IsVacant, cell_value}
-
-count_ones-zero : count_ones 0 ≡ 0
-unfolding ones
-count_ones-zero = refl
-
--- a tag is not 0
-pub le-tag : (tag : ℕ) → IsTag tag → 1 ≤ tag
-le-tag zero is = absurd (omega (arith, is.1, count_ones-zero))
-le-tag (suc n) is = omega arith
 
 -- the word of a cell is not 0
 pub cell_word-some : (word tag value : ℕ) → IsCellWord word tag value → word ≢ 0
-cell_word-some word tag value is none = let some = le-tag tag is.is_tag in let here : word ≡ entry_word (Regular tag value true) = is.is_word in omega arith
+cell_word-some word tag value is none = let some : 1 ≤ tag = is.is_tag.0 in let here : word ≡ entry_word (Regular tag value true) = is.is_word in omega arith
 
 valid_cell : (word tag value : ℕ) → IsCellWord word tag value → IsValid (Regular tag value true)
-valid_cell word tag value is = (le-tag tag is.is_tag, omega (arith, is.is_tag.0), is.is_value)
+valid_cell word tag value is = (is.is_tag.0, omega (arith, is.is_tag.1), is.is_value)
 
--- a strip of a word that isn't 0 answers what the cell does that it shows
-seen_by : (r : Option ℕ) (c : Cell) (tag : ℕ) → SomeIff r (c.tag ≡ tag) c.value → IsTrue c.shown →
-    option_map_or reply.Value r reply.Fault ≡ seen_under (Some c) tag
-seen_by None c tag other shown =
-    sym (ap (λ (b : Bool). if b && (c.tag == tag) then reply.Value c.value else reply.Fault) shown
-    ∙ ap (λ (b : Bool). if b then reply.Value c.value else reply.Fault) (ne_eqb c.tag tag other))
-seen_by (Some v) c tag own shown =
+-- a tag that is asked lies within the range, and a tag within it is asked
+pub IsWithin-asked : (first last tag : ℕ) → IsTrue (is_asked first last tag) → IsWithin first last tag
+IsWithin-asked first last tag asked =
+    let parts = and_parts (nat_le first tag) (nat_le tag last) asked in
+    let low : first ≤ tag = leb-true first tag parts.0 in
+    (low, leb-true tag last parts.1)
+
+is_asked-within : (first last tag : ℕ) → IsWithin first last tag → is_asked first last tag ≡ true
+is_asked-within first last tag within = and_from (nat_le first tag) (nat_le tag last) (le-leb first tag within.0) (le-leb tag last within.1)
+
+is_asked-outside : (first last tag : ℕ) → (IsWithin first last tag → ⊥) → is_asked first last tag ≡ false
+is_asked-outside first last tag outside = elim (cases_Bool (is_asked first last tag)) [
+  | inl asked ↦ absurd (outside (IsWithin-asked first last tag asked))
+  | inr other ↦ other
+]
+
+-- the tag byte of a cell's word is the cell's tag
+pub tag_byte-cell : (word tag value : ℕ) → IsCellWord word tag value → tag_byte word ≡ tag
+tag_byte-cell word tag value is =
+    let small : value < 2 ^ 48 = is.is_value in
+    let low : tag < 256 = is.is_tag.1 in
+    let here : word ≡ entry_word (Regular tag value true) = is.is_word in
+    omega arith
+
+-- what is stripped of a word that isn't 0 is answered as what its cell shows under the range
+seen_by : (r : Option ℕ) (c : Cell) (first last : ℕ) → SomeIff r (IsWithin first last c.tag) c.value → IsTrue c.shown →
+    option_map_or reply.Value r reply.Fault ≡ seen_under (Some c) first last
+seen_by None c first last other shown =
+    sym (ap (λ (b : Bool). if b && is_asked first last c.tag then reply.Value c.value else reply.Fault) shown
+    ∙ ap (λ (b : Bool). if b then reply.Value c.value else reply.Fault) (is_asked-outside first last c.tag other))
+seen_by (Some v) c first last own shown =
     ap reply.Value own.1
-    ∙ sym (ap (λ (b : Bool). if b && (c.tag == tag) then reply.Value c.value else reply.Fault) shown
-    ∙ ap (λ (b : Bool). if b then reply.Value c.value else reply.Fault) (eq-eqb c.tag tag own.0))
+    ∙ sym (ap (λ (b : Bool). if b && is_asked first last c.tag then reply.Value c.value else reply.Fault) shown
+    ∙ ap (λ (b : Bool). if b then reply.Value c.value else reply.Fault) (is_asked-within first last c.tag own.0))
 
-pub seen_under-strip_of : (word tag : ℕ) → IsTag tag → word ≢ 0 → (cell : Option Cell) → EntryShows word cell →
-    option_map_or reply.Value (strip_of word tag) reply.Fault ≡ seen_under cell tag
-seen_under-strip_of word tag is some None (inl none) = absurd (some none)
-seen_under-strip_of word tag is some None (inr free) =
+pub seen_under-stripped : (word first last : ℕ) (answer : Option ℕ) → IsStripped word first last answer → word ≢ 0 →
+    (cell : Option Cell) → EntryShows word cell → option_map_or reply.Value answer reply.Fault ≡ seen_under cell first last
+seen_under-stripped word first last answer stripped some None (inl none) = absurd (some none)
+seen_under-stripped word first last answer stripped some None (inr free) =
     let small : free.0 < 2 ^ 32 = free.1 in
     let here : word ≡ entry_word (Free free.0) = free.2 in
     ap (λ (r : Option ℕ). option_map_or reply.Value r reply.Fault)
-    (strip_of-unmarked_flagged word tag is.0 (omega arith) (omega arith))
-seen_under-strip_of word tag is some (Some c) shows =
-    seen_by (strip_of word tag) c tag
-    (strip_of-regular word c.tag tag c.value true shows.0.is_word shows.0.is_tag is shows.0.is_value) shows.1
+    (stripped-unmarked_flagged word first last answer (omega arith) (omega arith) stripped)
+seen_under-stripped word first last answer stripped some (Some c) shows =
+    seen_by answer c first last
+    (stripped-regular word c.tag c.value first last true answer shows.0.is_word shows.0.is_tag shows.0.is_value stripped) shows.1
 
 -- a word that decodes to a cell shows one, and its value
 abbrev DecodesTo : ℕ → Option Entry → Type 0

@@ -11,6 +11,7 @@ use Rattle.plain_table.specs.declared.scripts.Meet.TheVariants.{Plain, Start, Fi
 use Rattle.plain_table.specs.declared.scripts.Phase.{Phase}
 use Rattle.plain_table.specs.declared.scripts.Script.{Script}
 use Rattle.script_reader.specs.Valid.{IsValidLimits, IsValidOp, IsValidPhase, IsValidScript}
+use Rattle.script_reader.proofs.Upgrading.{op-upgraded}
 use Rattle.table_run.specs.EngineParts.{HasRoom}
 use Rattle.table_run.specs.Built.{IsOnePhase, IsValidCall, are_built, are_built_phases, is_built, is_built_op, is_end}
 
@@ -33,12 +34,12 @@ room_of limits v =
       objects = v.objects.1;
     }
 
-both : (ops : List Op) → All IsValidOp ops → are_built ops ≡ true → All IsValidCall ops
-both [] valid built k d within = absurd (omega arith)
-both (op ∷ ops) valid built zero d within =
-    (valid zero d within, (and_parts (is_built_op op) (are_built ops) built).0)
-both (op ∷ ops) valid built (suc k) d within =
-    both ops (λ j e less. valid (suc j) e (omega arith)) (and_parts (is_built_op op) (are_built ops) built).1 k d (omega arith)
+both : (version : ℕ) (ops : List Op) → All (IsValidOp version) ops → are_built ops ≡ true → All IsValidCall ops
+both version [] valid built k d within = absurd (omega arith)
+both version (op ∷ ops) valid built zero d within =
+    (op-upgraded version op (valid zero op (lit< tt)), (and_parts (is_built_op op) (are_built ops) built).0)
+both version (op ∷ ops) valid built (suc k) d within =
+    both version ops (λ j e less. valid (suc j) e (omega arith)) (and_parts (is_built_op op) (are_built ops) built).1 k d (omega arith)
 
 end_of : (meet : Meet) → is_end meet ≡ true → meet ≡ End
 end_of Plain h = absurd (cc)
@@ -47,32 +48,32 @@ end_of Finish h = absurd (cc)
 end_of End h = refl
 
 -- one list of operations
-one_list : (lists : List (List Op)) → length lists ≡ 1 → list_all are_built lists ≡ true → All (All IsValidOp) lists →
+one_list : (version : ℕ) (lists : List (List Op)) → length lists ≡ 1 → list_all are_built lists ≡ true → All (All (IsValidOp version)) lists →
     (ops : List Op) × (lists ≡ ops ∷ []) × All IsValidCall ops
-one_list [] one built valid = absurd (omega arith)
-one_list (ops ∷ []) one built valid = (ops, refl, both ops (valid zero ops (lit< tt)) (and_parts (are_built ops) true built).0)
-one_list (ops ∷ more ∷ lists) one built valid = absurd (omega arith)
+one_list version [] one built valid = absurd (omega arith)
+one_list version (ops ∷ []) one built valid = (ops, refl, both version ops (valid zero ops (lit< tt)) (and_parts (are_built ops) true built).0)
+one_list version (ops ∷ more ∷ lists) one built valid = absurd (omega arith)
 
-only_phase : (phases : List Phase) (mutators : ℕ) → mutators ≡ 1 → are_built_phases phases ≡ true → All (IsValidPhase mutators) phases →
+only_phase : (phases : List Phase) (version mutators : ℕ) → mutators ≡ 1 → are_built_phases phases ≡ true → All (IsValidPhase version mutators) phases →
     (ops : List Op) × (phases ≡ (record { calls = ops ∷ []; meet = End }) ∷ []) × All IsValidCall ops
-only_phase [] mutators one built valid = absurd (cc)
-only_phase (phase ∷ []) mutators one built valid =
-    let here : IsValidPhase mutators phase = valid zero phase (lit< tt) in
+only_phase [] version mutators one built valid = absurd (cc)
+only_phase (phase ∷ []) version mutators one built valid =
+    let here : IsValidPhase version mutators phase = valid zero phase (lit< tt) in
     let parts = and_parts (is_end phase.meet) (list_all are_built phase.calls) built in
-    let list = one_list phase.calls (here.lists ∙ one) parts.1 here.each in (
+    let list = one_list version phase.calls (here.lists ∙ one) parts.1 here.each in (
       list.0,
       ap (λ (calls : List (List Op)). (record { calls = calls; meet = phase.meet }) ∷ []) list.1
           ∙ ap (λ (meet : Meet). (record { calls = list.0 ∷ []; meet = meet }) ∷ []) (end_of phase.meet parts.0),
       list.2,
     )
-only_phase (phase ∷ other ∷ phases) mutators one built valid = absurd (cc)
+only_phase (phase ∷ other ∷ phases) version mutators one built valid = absurd (cc)
 
 pub one_phase : (script : Script) → IsValidScript script → is_built script ≡ true → IsOnePhase script
 one_phase script valid built =
     let parts = and_parts (script.limits.mutators == 1 && script.limits.markers == 0) (are_built_phases script.phases) built in
     let limits = and_parts (script.limits.mutators == 1) (script.limits.markers == 0) parts.0 in
     let one : script.limits.mutators ≡ 1 = eqb-true script.limits.mutators 1 limits.0 in
-    let phase = only_phase script.phases script.limits.mutators one parts.1 valid.each in
+    let phase = only_phase script.phases script.version script.limits.mutators one parts.1 valid.each in
     record {
       room = room_of script.limits valid.limits;
       mutators = one;

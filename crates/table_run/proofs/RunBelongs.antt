@@ -15,7 +15,7 @@ use Rattle.plain_table.specs.declared.reports.PhaseReport.{PhaseReport}
 use Rattle.plain_table.specs.declared.reports.Outcome.{Outcome}
 use Rattle.plain_table.specs.Table.{Table, opening, limit_of}
 use Rattle.plain_table.specs.History.{IsLegalHistory, after, next}
-use Rattle.plain_table.specs.Shapes.{MakesCalls}
+use Rattle.plain_table.specs.Shapes.{MakesCalls, with_ticket}
 use Rattle.plain_table.specs.Scans.{Ends, IsReadBeside, Others, Rest, Scans}
 use Rattle.plain_table.specs.Belongs.{IsMarker, Part, PhaseBelongs, PhasesBelong, HasTotals, events_by, whole, is_external_put}
 use Rattle.table_run.specs.declared.engine.Engine.{Engine}
@@ -43,10 +43,10 @@ numbers-own limits some (e ∷ es) own (suc k) d within = numbers-own limits som
 
 -- and a marker makes none, so it scans nothing
 scans-own : (b : ℕ) → 8 ≤ b → (s : Table) (es : List Event) → AllByRecursion IsOwn es →
-    Scans (λ t o. Unit {0}) IsReadBeside b Rest s es
-scans-own b high s [] own = Ends s
+    Scans (λ t o. Unit {0}) IsReadBeside b Rest s es Rest
+scans-own b high s [] own = Ends Rest s
 scans-own b high s (e ∷ es) own =
-    Others Rest s e es (λ same. let by : e.by ≡ 0 = own.0 in omega (arith, same)) (scans-own b high (next s e) es own.1)
+    Others Rest s e es Rest (λ same. let by : e.by ≡ 0 = own.0 in omega (arith, same)) (scans-own b high (next s e) es own.1)
 
 append_none : (es : List Event) → es ++ [] ≡ es
 append_none [] = refl
@@ -62,12 +62,12 @@ pub record IsOutcome (engine : Engine) (totals : Totals) (replies : List Reply) 
   pub puts : outcome.puts ≡ engine.used - 1
 
 calls_made : (limits : Limits) (s : Table) (calls : List Op) (replies : List Reply) (es : List Event) → limits.mutators ≡ 1 →
-    AllByRecursion IsOwn es → MakesCalls 0 None (s.vars 0) None calls replies es → (b : ℕ) → b < limits.mutators →
-    MakesCalls b None (s.vars b) None (slice_index_or (calls ∷ []) b []) (slice_index_or (replies ∷ []) b []) (events_by b es)
+    AllByRecursion IsOwn es → MakesCalls 0 None (s.vars 0) (with_ticket None) calls replies es → (b : ℕ) → b < limits.mutators →
+    MakesCalls b None (s.vars b) (with_ticket None) (slice_index_or (calls ∷ []) b []) (slice_index_or (replies ∷ []) b []) (events_by b es)
 calls_made limits s calls replies es one own made b below =
     let none : 0 ≡ b = omega arith in
-    subst (λ (m : ℕ). MakesCalls m None (s.vars m) None (slice_index_or (calls ∷ []) m []) (slice_index_or (replies ∷ []) m []) (events_by m es)) none
-    (subst (λ (events : List Event). MakesCalls 0 None (s.vars 0) None calls replies events) (sym (events_by-own es own)) made)
+    subst (λ (m : ℕ). MakesCalls m None (s.vars m) (with_ticket None) (slice_index_or (calls ∷ []) m []) (slice_index_or (replies ∷ []) m []) (events_by m es)) none
+    (subst (λ (events : List Event). MakesCalls 0 None (s.vars 0) (with_ticket None) calls replies events) (sym (events_by-own es own)) made)
 
 totals_of : (engine : Engine) (totals : Totals) (replies : List Reply) (outcome : Outcome) → IsOutcome engine totals replies outcome →
     (s : Table) (es : List Event) → Shows engine s → IsTotal s totals → engine.used ≡ 1 + count_by (λ (e : Event). is_external_put e.act) es →
@@ -97,6 +97,7 @@ answers_played script calls replies start engine totals outcome mutators phases 
       scans = λ b is. scans-own b is.0 (opening script.limits) run.events run.alone;
       numbers = numbers-own script.limits (omega (arith, mutators)) run.events run.alone;
       roots = λ begins. absurd (cc);
+      old = λ begins. absurd (cc);
       lists = sym mutators;
       meet = refl;
     } in (

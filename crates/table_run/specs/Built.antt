@@ -15,13 +15,13 @@ use Rattle.table_run.specs.EngineParts.{HasRoom}
 abbrev pub is_built_op : Op → Bool
 is_built_op (New var) = true
 is_built_op (Init var f tag value) = true
-is_built_op (Load var f tag) = true
-is_built_op (Store var f tag value) = true
-is_built_op (Swap var f tag value) = true
+is_built_op (Load var f first last) = true
+is_built_op (Store var f first last value) = true
+is_built_op (Swap var f first last value) = true
 is_built_op (Name var f) = true
 is_built_op (Forge var f word) = true
-is_built_op (Raw word tag) = true
-is_built_op (RawSet word tag value) = true
+is_built_op (Raw word first last) = true
+is_built_op (RawSet word first last value) = true
 is_built_op _ = false
 
 abbrev pub are_built : List Op → Bool
@@ -39,9 +39,9 @@ are_built_phases _ = false
 abbrev pub is_built : Script → Bool
 is_built script = script.limits.mutators == 1 && script.limits.markers == 0 && are_built_phases script.phases
 
--- a valid operation that is built
+-- a valid operation that is built; what is valid in version 1 is in version 2
 abbrev pub IsValidCall : Op → Type 0
-IsValidCall op = IsValidOp op × IsTrue (is_built_op op)
+IsValidCall op = IsValidOp 2 op × IsTrue (is_built_op op)
 
 -- a valid script that is built has these calls of mutator 0 in its one phase
 pub record IsOnePhase (script : Script) : Type 0 where

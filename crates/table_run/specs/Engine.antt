@@ -12,7 +12,7 @@ use Rattle.plain_table.specs.Index.{index_of}
 use Rattle.plain_table.specs.Rows.{HasCell, look, value_at, with_value}
 use Rattle.plain_table.specs.Table.{Table, limit_of}
 use Rattle.plain_table.specs.History.{IsLegalHistory, after}
-use Rattle.plain_table.specs.Shapes.{IsMiss, IsShape, held_after}
+use Rattle.plain_table.specs.Shapes.{IsMiss, IsShape, held_after, own_after, with_ticket}
 use Rattle.plain_table.specs.Sweeps.{cells_in}
 use Rattle.plain_table.specs.Belongs.{is_external_put, values_below}
 use Rattle.table_run.specs.declared.engine.Engine.{Engine}
@@ -40,6 +40,7 @@ pub record Plays (old new : Engine) (s : Table) (op : Op) (said : Reply) : Type 
   pub shape : IsShape 0 None (s.vars 0) None op said events
   pub alone : AllByRecursion (λ (e : Event). e.by ≡ 0) events
   pub held : held_after (s.vars 0) events ≡ (after s events).vars 0
+  pub own : own_after (with_ticket None) events ≡ with_ticket None
   pub puts : new.used ≡ old.used + count_by (λ (e : Event). is_external_put e.act) events
   pub shows : Shows new (after s events)
 
@@ -49,13 +50,13 @@ pub record IsTotal (s : Table) (totals : Totals) : Type 0 where
   pub sum : totals.sum ≡ values_below (s.cells External) (limit_of s External) % 2 ^ 48
 
 -- a look found a value, and another one was written in its place
-pub record Wrote (new : Engine) (s : Table) (word tag value found : ℕ) : Type 0 where
-  pub cell : HasCell s word tag
+pub record Wrote (new : Engine) (s : Table) (word first last value found : ℕ) : Type 0 where
+  pub cell : HasCell s word first last
   pub found_there : found ≡ value_at (s.cells External (index_of word))
   pub shows : Shows new (with_value s (index_of word) value)
 
--- the engine looked at a word under a tag, and where it found a value, wrote another one
-pub record Exchanges (old new : Engine) (s : Table) (word tag value : ℕ) (found : Reply) : Type 0 where
-  pub looked : found ≡ look s External word tag
+-- the engine looked at a word under a range of tags, and where it found a value, wrote another one
+pub record Exchanges (old new : Engine) (s : Table) (word first last value : ℕ) (found : Reply) : Type 0 where
+  pub looked : found ≡ look s External word first last
   pub used : new.used ≡ old.used
-  pub outcome : (IsMiss found × Shows new s) ⊎ ((v : ℕ) × (found ≡ reply.Value v) × Wrote new s word tag value v)
+  pub outcome : (IsMiss found × Shows new s) ⊎ ((v : ℕ) × (found ≡ reply.Value v) × Wrote new s word first last value v)

@@ -7,6 +7,7 @@ use Rattle.plain_table.specs.declared.events.Cell.{Cell}
 use Rattle.plain_table.specs.declared.reports.Reply.{Reply}
 use Rattle.plain_table.specs.declared.reports.Reply.TheVariants as reply
 use Rattle.plain_table.specs.Rows.{IsTag}
+use Rattle.tag_set.specs.Range.{IsRange}
 use Rattle.entry_word.specs.declared.Entry.{Entry}
 use Rattle.entry_word.specs.declared.Entry.TheVariants.{Free, Regular}
 use Rattle.entry_word.specs.Entry.{entry_word}
@@ -21,26 +22,33 @@ pub record HasRoom (limits : Limits) : Type 0 where
   pub most : limits.seg * limits.ext ≤ 65536
   pub objects : limits.objects ≤ 16384
 
--- the places of a call that writes by a field, that loads by one, that forges one, and that writes by a word
+-- the places of a call that fills a field, that loads by one, that stores by one, that forges one, and that stores by a
+-- word
 pub record IsValidWrite (var f tag value : ℕ) : Type 0 where
   pub variable : var < 16
   pub field : f < 2
   pub tagged : IsTag tag
   pub small : value < 2 ^ 48
 
-pub record IsValidLoad (var f tag : ℕ) : Type 0 where
+pub record IsValidLoad (var f first last : ℕ) : Type 0 where
   pub variable : var < 16
   pub field : f < 2
-  pub tagged : IsTag tag
+  pub range : IsRange first last
+
+pub record IsValidStore (var f first last value : ℕ) : Type 0 where
+  pub variable : var < 16
+  pub field : f < 2
+  pub range : IsRange first last
+  pub small : value < 2 ^ 48
 
 pub record IsValidForge (var f word : ℕ) : Type 0 where
   pub variable : var < 16
   pub field : f < 2
   pub within : word < 2 ^ 32
 
-pub record IsValidRawSet (word tag value : ℕ) : Type 0 where
+pub record IsValidRawSet (word first last value : ℕ) : Type 0 where
   pub within : word < 2 ^ 32
-  pub tagged : IsTag tag
+  pub range : IsRange first last
   pub small : value < 2 ^ 48
 
 -- the word of an entry where no cell stands: null, or free

@@ -8,10 +8,11 @@ use Rattle.plain_table.specs.Belongs.{Belongs, Part}
 use Rattle.ept_io.specs.Bytes.{Took}
 use Rattle.script_reader.specs.Grammar.{script_of}
 use Rattle.script_reader.specs.Canonical.{canonical_of}
+use Rattle.script_reader.specs.Law.{upgraded}
 use Rattle.report_text.specs.Report.{report_of, fault_text_of}
 use Rattle.table_run.specs.Built.{is_built}
 use Rattle.table_run.specs.declared.answers.Form.{Form}
-use Rattle.table_run.specs.declared.answers.Form.TheVariants.{Run, Check}
+use Rattle.table_run.specs.declared.answers.Form.TheVariants.{Run, Check, Upgrade}
 use Rattle.table_run.specs.declared.answers.Status.{Status}
 use Rattle.table_run.specs.declared.answers.Status.TheVariants as status
 
@@ -19,10 +20,11 @@ use Rattle.table_run.specs.declared.answers.Status.TheVariants as status
 abbrev pub most_bytes : ℕ
 most_bytes = 4194304
 
--- the form of the words behind the program's name: `run` or `check` alone
+-- the form of the words after the program's name: `run`, `check` or `upgrade` alone
 abbrev pub form_of_word : List ℕ → Option Form
 form_of_word word =
-    if bytes_eq word (codes "run") then Some Run else (if bytes_eq word (codes "check") then Some Check else None)
+    if bytes_eq word (codes "run") then Some Run else (if bytes_eq word (codes "check") then Some Check
+    else (if bytes_eq word (codes "upgrade") then Some Upgrade else None))
 
 abbrev pub form_of : List (List ℕ) → Option Form
 form_of (word ∷ []) = form_of_word word
@@ -46,15 +48,17 @@ pub record IsReportOf (script : Script) (text : List ℕ) : Type 0 where
   pub belongs : Belongs script history outcome
   pub report : text ≡ report_of outcome
 
--- the text that a form asks for of a script: the report of its run, or its canonical text
+-- the text that a form asks for of a script: the report of its run, its canonical text, or that of the script in version 2
 abbrev pub IsAskedText : Form → Script → List ℕ → Type 0
 IsAskedText Run script text = IsReportOf script text
 IsAskedText Check script text = text ≡ canonical_of script
+IsAskedText Upgrade script text = text ≡ canonical_of (upgraded script)
 
 -- the answer to a valid script, where nothing fails
 abbrev pub answer_of : Form → Script → Status
 answer_of Run script = if is_built script then status.Ok else status.NotBuilt
 answer_of Check script = status.Ok
+answer_of Upgrade script = status.Ok
 
 -- the text that an answer to the bytes of a script stands for; the other answers have none
 abbrev pub IsTextOf : Form → List ℕ → Status → List ℕ → Type 0

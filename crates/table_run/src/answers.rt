@@ -11,6 +11,8 @@ pub enum Form {
     Run,
     /// To print the script in its canonical form.
     Check,
+    /// To print the script of version 2 with the same limits and phases, in its canonical form.
+    Upgrade,
 }
 
 /// How a run of the program ended. The cause of each answer is a clause of `run_main`.

@@ -5,13 +5,17 @@ ghost use Rattle.plain_table.specs.declared.events.Cell.{Cell};
 ghost use Rattle.plain_table.specs.Table.{Table, opening};
 ghost use Rattle.plain_table.specs.Index.{index_of};
 ghost use Rattle.plain_table.specs.Rows.{IsTag, value_at};
+ghost use Rattle.tag_set.specs.Range.{IsRange};
+ghost use Rattle.tag_set.specs.Strip.{tag_byte};
+ghost use Rattle.entry_word.specs.declared.Entry.TheVariants.{Regular};
+ghost use Rattle.entry_word.specs.Entry.{entry_word};
 ghost use Rattle.table_run.specs.Built.{IsValidCall};
-ghost use Rattle.table_run.specs.EngineParts.{EachBelow, EntryShows, HasRoom, IsValidForge, IsValidLoad, IsValidRawSet, IsValidWrite, cell_value, IsVacant, stored};
+ghost use Rattle.table_run.specs.EngineParts.{EachBelow, EntryShows, HasRoom, IsValidForge, IsValidLoad, IsValidRawSet, IsValidStore, IsValidWrite, cell_value, IsVacant, stored};
 
 use entry_word::{Entry, decode, encode, index_of, word_of};
 use plain_table::{Limits, Op, Reply};
 use std::alloc::{AllocError, Global};
-use tag_set::{Tag, strip};
+use tag_set::{Range, Tag, strip};
 
 /// A value has bits 0 to 47, and a sum of values keeps these.
 const VALUES: u64 = 1 << 48;
@@ -101,13 +105,35 @@ impl Engine {
         match *call {
             Op::New { var } => self.make_object(var),
             Op::Init { var, f, tag, value } => self.init(var, f, tag, value),
-            Op::Load { var, f, tag } => self.load(var, f, tag),
-            Op::Store { var, f, tag, value } => self.store(var, f, tag, value),
-            Op::Swap { var, f, tag, value } => self.swap(var, f, tag, value),
+            Op::Load {
+                var,
+                f,
+                first,
+                last,
+            } => self.load(var, f, first, last),
+            Op::Store {
+                var,
+                f,
+                first,
+                last,
+                value,
+            } => self.store(var, f, first, last, value),
+            Op::Swap {
+                var,
+                f,
+                first,
+                last,
+                value,
+            } => self.swap(var, f, first, last, value),
             Op::Name { var, f } => self.name(var, f),
             Op::Forge { var, f, word } => self.forge(var, f, word),
-            Op::Raw { word, tag } => self.raw(word, tag),
-            Op::RawSet { word, tag, value } => self.raw_set(word, tag, value),
+            Op::Raw { word, first, last } => self.raw(word, first, last),
+            Op::RawSet {
+                word,
+                first,
+                last,
+                value,
+            } => self.raw_set(word, first, last, value),
             _ => unreachable!(),
         }
     }
@@ -151,38 +177,38 @@ impl Engine {
         Reply::Ok
     }
 
-    fn load(&self, var: u32, f: u32, tag: u8) -> Reply
-        requires { IsValidLoad var f tag }
-        ensures { (s : Table) → Shows self.now s → Plays self.now self.now s (op.Load var f tag) result }
+    fn load(&self, var: u32, f: u32, first: u8, last: u8) -> Reply
+        requires { IsValidLoad var f first last }
+        ensures { (s : Table) → Shows self.now s → Plays self.now self.now s (op.Load var f first last) result }
     {
         match self.field_at(var, f) {
             None => Reply::Empty,
-            Some(field) => self.look(self.fields[field], tag),
+            Some(field) => self.look(self.fields[field], first, last),
         }
     }
 
-    fn store(&mut self, var: u32, f: u32, tag: u8, value: u64) -> Reply
-        requires { IsValidWrite var f tag value }
-        ensures { (s : Table) → Shows self.old s → Plays self.old self.new s (op.Store var f tag value) result }
+    fn store(&mut self, var: u32, f: u32, first: u8, last: u8, value: u64) -> Reply
+        requires { IsValidStore var f first last value }
+        ensures { (s : Table) → Shows self.old s → Plays self.old self.new s (op.Store var f first last value) result }
     {
         match self.field_at(var, f) {
             None => Reply::Empty,
             Some(field) => {
                 let word = self.fields[field];
-                stored(self.exchange(word, tag, value))
+                stored(self.exchange(word, first, last, value))
             }
         }
     }
 
-    fn swap(&mut self, var: u32, f: u32, tag: u8, value: u64) -> Reply
-        requires { IsValidWrite var f tag value }
-        ensures { (s : Table) → Shows self.old s → Plays self.old self.new s (op.Swap var f tag value) result }
+    fn swap(&mut self, var: u32, f: u32, first: u8, last: u8, value: u64) -> Reply
+        requires { IsValidStore var f first last value }
+        ensures { (s : Table) → Shows self.old s → Plays self.old self.new s (op.Swap var f first last value) result }
     {
         match self.field_at(var, f) {
             None => Reply::Empty,
             Some(field) => {
                 let word = self.fields[field];
-                self.exchange(word, tag, value)
+                self.exchange(word, first, last, value)
             }
         }
     }
@@ -198,18 +224,18 @@ impl Engine {
         Reply::Ok
     }
 
-    fn raw(&self, word: u32, tag: u8) -> Reply
-        requires { IsTag tag }
-        ensures { (s : Table) → Shows self.now s → Plays self.now self.now s (op.Raw word tag) result }
+    fn raw(&self, word: u32, first: u8, last: u8) -> Reply
+        requires { IsRange first last }
+        ensures { (s : Table) → Shows self.now s → Plays self.now self.now s (op.Raw word first last) result }
     {
-        self.look(word, tag)
+        self.look(word, first, last)
     }
 
-    fn raw_set(&mut self, word: u32, tag: u8, value: u64) -> Reply
-        requires { IsValidRawSet word tag value }
-        ensures { (s : Table) → Shows self.old s → Plays self.old self.new s (op.RawSet word tag value) result }
+    fn raw_set(&mut self, word: u32, first: u8, last: u8, value: u64) -> Reply
+        requires { IsValidRawSet word first last value }
+        ensures { (s : Table) → Shows self.old s → Plays self.old self.new s (op.RawSet word first last value) result }
     {
-        stored(self.exchange(word, tag, value))
+        stored(self.exchange(word, first, last, value))
     }
 
     fn name(&self, var: u32, f: u32) -> Reply
@@ -243,13 +269,14 @@ impl Engine {
         totals
     }
 
-    /// Looks at the entry that a word names, under a tag. Whatever the word, it answers null, a fault, or a value that
-    /// was put under the asked tag.
-    fn look(&self, word: u32, tag: u8) -> Reply
-        requires { IsTag tag }
-        ensures shown { (s : Table) → Shows self.now s → result ≡ look s External word tag }
-        ensures within { (v : ℕ) → result ≡ Reply.Value v →
-            (1 ≤ index_of word) × (index_of word < vec_len self.now.entries) }
+    /// Looks at the entry that a word names, under a range of tags. Whatever the word, it answers null, a fault, or a
+    /// value that was put under a tag of the range.
+    fn look(&self, word: u32, first: u8, last: u8) -> Reply
+        requires { IsRange first last }
+        ensures shown { (s : Table) → Shows self.now s → result ≡ look s External word first last }
+        ensures within { (v : ℕ) → result ≡ Reply.Value v → (1 ≤ index_of word)
+            × (index_of word < vec_len self.now.entries)
+            × (1 ≤ tag_byte (slice_index_or self.now.entries.items (index_of word) 0)) }
     {
         let index = index_of(word) as usize;
         if index == 0 {
@@ -258,24 +285,35 @@ impl Engine {
         if index >= self.entries.len() {
             return Reply::Fault;
         }
-        answer(strip(self.entries[index], known_tag(tag)))
+        answer(strip(self.entries[index], known_range(first, last)))
     }
 
-    /// Looks at the entry that a word names, under a tag, and writes another value where one stands there.
-    fn exchange(&mut self, word: u32, tag: u8, value: u64) -> Reply
-        requires { IsTag tag × (value < 2 ^ 48) }
-        ensures { (s : Table) → Shows self.old s → Exchanges self.old self.new s word tag value result }
+    /// Looks at the entry that a word names, under a range of tags, and writes another value where one stands there. The
+    /// cell keeps its tag.
+    fn exchange(&mut self, word: u32, first: u8, last: u8, value: u64) -> Reply
+        requires { IsRange first last × (value < 2 ^ 48) }
+        ensures { (s : Table) → Shows self.old s → Exchanges self.old self.new s word first last value result }
     {
-        let found = self.look(word, tag);
+        let found = self.look(word, first, last);
         if let Reply::Value(_) = found {
-            self.entries[index_of(word) as usize] = encode(&Entry::Regular {
-                tag,
-                value,
-                marked: true,
-            });
+            let index = index_of(word) as usize;
+            self.entries[index] = with_value(self.entries[index], value);
         }
         found
     }
+}
+
+/// The word of a marked entry with the tag of an entry's word and another value.
+fn with_value(word: u64, value: u64) -> u64
+    requires { (1 ≤ tag_byte word) × (value < 2 ^ 48) }
+    ensures { result ≡ entry_word (Regular (tag_byte word) value true) }
+{
+    let tag = (word >> 48) % 256;
+    encode(&Entry::Regular {
+        tag: tag as u8,
+        value,
+        marked: true,
+    })
 }
 
 /// The value of a cell's entry.
@@ -314,6 +352,14 @@ fn known_tag(byte: u8) -> Tag
     ensures { result ≡ byte }
 {
     Tag::of(byte).unwrap()
+}
+
+/// The range with these ends.
+fn known_range(first: u8, last: u8) -> Range
+    requires { IsRange first last }
+    ensures { (result.first ≡ first) × (result.last ≡ last) }
+{
+    Range::of(known_tag(first), known_tag(last)).unwrap()
 }
 
 /// Entry 0 and `limit` - 1 free entries, each naming the next one.

@@ -4,6 +4,7 @@ ghost use Rattle.std.specs.Io.KnownBytes.{IsAtEnd};
 ghost use Rattle.plain_table.specs.declared.scripts.Script.{Script};
 ghost use Rattle.ept_io.specs.Faults.{Rose};
 ghost use Rattle.script_reader.specs.declared.refusals.ScriptErr.{ScriptErr};
+ghost use Rattle.script_reader.specs.Canonical.{canonical_of};
 ghost use Rattle.script_reader.specs.Grammar.{script_of};
 ghost use Rattle.script_reader.specs.Valid.{IsValidScript};
 ghost use Rattle.table_run.specs.declared.answers.Form.{Form};
@@ -15,16 +16,16 @@ use crate::run::{is_built, run};
 use ept_io::{ReadErr, Sink, Source, read_script, write_all};
 use plain_table::Script;
 use report_text::{fault_text, text};
-use script_reader::{OutOfMemory, ScriptErr, parse, print};
+use script_reader::{OutOfMemory, ScriptErr, parse, print, upgrade};
 use std::alloc::{AllocError, Global};
 use std::thread::Threads;
 
 /// The most bytes of a script.
 const MOST_BYTES: usize = 4_194_304;
 
-/// Does all that the program does. `args` are the words behind the program's name, `run` or `check`. It reads a script
-/// from `src` to its end, and writes to `out` the report of its run, its canonical text, or the text of its refusal.
-/// Takes no memory once it writes.
+/// Does all that the program does. `args` are the words after the program's name, `run`, `check` or `upgrade`. It reads a
+/// script from `src` to its end, and writes to `out` the report of its run, its canonical text, that of the script in
+/// version 2, or the text of its refusal. Takes no memory once it writes.
 pub fn run_main<R: Threads + Sync, S: Source, K: Sink>(
     _rt: &R,
     alloc: Global,
@@ -33,7 +34,7 @@ pub fn run_main<R: Threads + Sync, S: Source, K: Sink>(
     out: &mut K,
 ) -> Status
     // The source was read to its end, and the whole text was written: the report of an outcome that belongs to the
-    // script, or the canonical text.
+    // script, the canonical text, or that of the script in version 2.
     ensures ok { (form : Form) → form_of (map string_bytes args.now) ≡ Some form → result ≡ Status.Ok →
         IfSome (S.left src.old) (λ bytes. WroteAll form bytes Status.Ok (K.written out.old) (K.written out.new)) }
     ensures ok_end { result ≡ Status.Ok → IsAtEnd (S.left src.new) }
@@ -119,6 +120,8 @@ fn form_of_word(word: &str) -> Option<Form>
         Some(Form::Run)
     } else if word == "check" {
         Some(Form::Check)
+    } else if word == "upgrade" {
+        Some(Form::Upgrade)
     } else {
         None
     }
@@ -141,7 +144,7 @@ fn answer_to(alloc: Global, form: Form, bytes: &[u8]) -> Result<Answer, Status>
     match parse(alloc, bytes) {
         Ok(script) => Ok(Answer {
             status: Status::Ok,
-            text: asked_text(alloc, form, &script)?,
+            text: asked_text(alloc, form, script)?,
         }),
         Err(ScriptErr::OutOfMemory) => Err(Status::OutOfMemory),
         Err(refusal) => match fault_text(alloc, &refusal) {
@@ -155,18 +158,28 @@ fn answer_to(alloc: Global, form: Form, bytes: &[u8]) -> Result<Answer, Status>
 }
 
 /// The text that the form asks for.
-fn asked_text(alloc: Global, form: Form, script: &Script) -> Result<String, Status>
-    requires { IsValidScript script.now }
-    ensures text { IfOk result (λ text. IsAskedText form script.now (string_bytes text)) }
+fn asked_text(alloc: Global, form: Form, script: Script) -> Result<String, Status>
+    requires { IsValidScript script }
+    ensures text { IfOk result (λ text. IsAskedText form script (string_bytes text)) }
     ensures silent { IfErr result (λ status. (status ≡ Status.OutOfMemory)
-        ⊎ ((status ≡ Status.NotBuilt) × (form ≡ Form.Run) × (is_built script.now ≡ false))) }
+        ⊎ ((status ≡ Status.NotBuilt) × (form ≡ Form.Run) × (is_built script ≡ false))) }
 {
     match form {
-        Form::Run => report_of_run(alloc, script),
-        Form::Check => match print(alloc, script) {
-            Ok(text) => Ok(text),
-            Err(OutOfMemory) => Err(Status::OutOfMemory),
-        },
+        Form::Run => report_of_run(alloc, &script),
+        Form::Check => printed(alloc, &script),
+        Form::Upgrade => printed(alloc, &upgrade(script)),
+    }
+}
+
+/// The canonical text of the script.
+fn printed(alloc: Global, script: &Script) -> Result<String, Status>
+    requires { IsValidScript script.now }
+    ensures text { IfOk result (λ text. string_bytes text ≡ canonical_of script.now) }
+    ensures silent { IfErr result (λ status. status ≡ Status.OutOfMemory) }
+{
+    match print(alloc, script) {
+        Ok(text) => Ok(text),
+        Err(OutOfMemory) => Err(Status::OutOfMemory),
     }
 }
 

@@ -1,3 +1,2 @@
-pub mod TagBytes
 pub mod StrippedWords
 pub mod TagList

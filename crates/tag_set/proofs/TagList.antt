@@ -7,21 +7,21 @@ use Rattle.std.proofs.lemmas.List.Elements.{All-push, Contains-push, Contains-ap
 use Rattle.std.proofs.lemmas.List.Quantifiers.{all_pairs_push}
 use Rattle.std.proofs.lemmas.Bool.{cases_eq}
 use lib.Count.{ones, ones_in}
-use Rattle.tag_set.specs.Tag.{IsTag}
+use Rattle.tag_set.specs.Tag.{IsOldTag}
 
 -- the list has the tags below n and no other number, ascending
 pub record AreTagsBelow (xs : List ℕ) (n : ℕ) : Type 0 where
-  pub tags : All IsTag xs
+  pub tags : All IsOldTag xs
   pub below : All (λ b. b < n) xs
   pub ascending : AllPairs (λ a b. a < b) xs
-  pub every : (b : ℕ) → b < n → IsTag b → Contains xs b
+  pub every : (b : ℕ) → b < n → IsOldTag b → Contains xs b
 
 none_below : AreTagsBelow [] 0
 none_below = record { tags = λ k d h. absurd (omega arith); below = λ k d h. absurd (omega arith); ascending = λ i j d g h. absurd (omega arith); every = λ b h. absurd (omega arith) }
 
-one_more : (xs : List ℕ) (n : ℕ) → IsTag n → AreTagsBelow xs n → AreTagsBelow (xs ++ n ∷ []) (n + 1)
+one_more : (xs : List ℕ) (n : ℕ) → IsOldTag n → AreTagsBelow xs n → AreTagsBelow (xs ++ n ∷ []) (n + 1)
 one_more xs n is_tag old = record {
-  tags = All-push IsTag xs n old.tags is_tag;
+  tags = All-push IsOldTag xs n old.tags is_tag;
   below = All-push (λ b. b < n + 1) xs n (λ k d h. let b = old.below k d h in omega arith) (omega arith);
   ascending = all_pairs_push (λ a b. a < b) xs n old.ascending old.below;
   every = λ b h t. elim (cases_eq b n) [
@@ -30,13 +30,13 @@ one_more xs n is_tag old = record {
   ];
 }
 
-none_more : (xs : List ℕ) (n : ℕ) → (IsTag n → ⊥) → AreTagsBelow xs n → AreTagsBelow xs (n + 1)
+none_more : (xs : List ℕ) (n : ℕ) → (IsOldTag n → ⊥) → AreTagsBelow xs n → AreTagsBelow xs (n + 1)
 none_more xs n no_tag old = record {
   tags = old.tags;
   below = λ k d h. let b = old.below k d h in omega arith;
   ascending = old.ascending;
   every = λ b h t. elim (cases_eq b n) [
-    | inl e ↦ absurd (no_tag (subst IsTag e t))
+    | inl e ↦ absurd (no_tag (subst IsOldTag e t))
     | inr other ↦ old.every b (omega (arith, other)) t
   ];
 }
@@ -54,7 +54,7 @@ number_below-none : number_below 0 ≡ 0
 unfolding number_below
 number_below-none = refl
 
-number_below-tag : (n : ℕ) → IsTag n → number_below (n + 1) ≡ number_below n + 1
+number_below-tag : (n : ℕ) → IsOldTag n → number_below (n + 1) ≡ number_below n + 1
 unfolding number_below
 number_below-tag n is_tag =
     ap number_below (add-one n)
@@ -78,7 +78,7 @@ number_below-le n (suc d) =
     omega (arith, number_below-le n d, number_below-rises (n + d), ap number_below e)
 
 -- one more tag below 256: there were fewer than 70
-number_below-lt : (n : ℕ) → n < 256 → IsTag n → number_below n < 70
+number_below-lt : (n : ℕ) → n < 256 → IsOldTag n → number_below n < 70
 number_below-lt n below is_tag =
     let e : n + 1 + (255 - n) ≡ 256 = omega arith in
     omega (arith, number_below-tag n is_tag, number_below-le (n + 1) (255 - n), ap number_below e, number_below-all)
@@ -92,11 +92,11 @@ pub record Lists (tags : List ℕ) (count n : ℕ) : Type 0 where
 pub lists_none : (tags : List ℕ) → length tags ≡ 70 → Lists tags 0 0
 lists_none tags room = record { room = room; counted = sym number_below-none; listed = none_below }
 
-pub lists_room : (tags : List ℕ) (count n : ℕ) → Lists tags count n → IsTag n → count < 70
+pub lists_room : (tags : List ℕ) (count n : ℕ) → Lists tags count n → IsOldTag n → count < 70
 lists_room tags count n old is_tag = omega (arith, old.counted, number_below-lt n is_tag.0 is_tag)
 
 -- the next number is a tag, and goes to the next place
-pub lists_one_more : (tags : List ℕ) (count n : ℕ) → Lists tags count n → IsTag n → (tag : ℕ) → tag ≡ n
+pub lists_one_more : (tags : List ℕ) (count n : ℕ) → Lists tags count n → IsOldTag n → (tag : ℕ) → tag ≡ n
     → (tags' : List ℕ) (count' : ℕ) → tags' ≡ set tags count tag → count' ≡ count + 1 → Lists tags' count' (n + 1)
 lists_one_more tags count n old is_tag tag same tags' count' tags_are count_is =
     let within : count < length tags = omega (arith, old.room, lists_room tags count n old is_tag) in
@@ -111,7 +111,7 @@ lists_one_more tags count n old is_tag tag same tags' count' tags_are count_is =
     }
 
 -- the next number is no tag, and nothing changes
-pub lists_same : (tags : List ℕ) (count n : ℕ) → Lists tags count n → n < 256 → (IsTag n → ⊥)
+pub lists_same : (tags : List ℕ) (count n : ℕ) → Lists tags count n → n < 256 → (IsOldTag n → ⊥)
     → (tags' : List ℕ) (count' : ℕ) → tags' ≡ tags → count' ≡ count → Lists tags' count' (n + 1)
 lists_same tags count n old below no_tag tags' count' tags_are count_is =
     let same : take count' tags' ≡ take count tags = ap (λ (k : ℕ). take k tags') count_is ∙ ap (λ (xs : List ℕ). take count xs) tags_are in
@@ -132,10 +132,5 @@ lists_all tags count n full last =
 pub ascending_all : (tags : List ℕ) → AreTagsBelow tags 256 → IsStrictlyIncreasing tags
 ascending_all tags full k h = full.ascending k (k + 1) 0 (omega arith) h
 
-pub every_tag : (tags : List ℕ) → AreTagsBelow tags 256 → (byte : ℕ) → IsTag byte → Contains tags byte
+pub every_tag : (tags : List ℕ) → AreTagsBelow tags 256 → (byte : ℕ) → IsOldTag byte → Contains tags byte
 every_tag tags full byte is_tag = full.every byte is_tag.0 is_tag
-
--- 15 is the least tag
-pub least_is_tag : IsTag 15
-unfolding ones ones_in
-least_is_tag = (omega arith, refl)

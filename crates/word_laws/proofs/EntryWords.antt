@@ -6,10 +6,10 @@ use Rattle.std.proofs.lemmas.Bool.Decides.{eqb_tells}
 use Rattle.plain_table.specs.declared.events.Cell.{Cell}
 use Rattle.plain_table.specs.declared.events.Space.{Space}
 use Rattle.plain_table.specs.declared.events.Field.{Field}
-use Rattle.plain_table.specs.Table.{Sizes}
+use Rattle.plain_table.specs.Table.{Sizes, limit_in}
 use Rattle.plain_table.specs.Words.{entry_place, cell_word, evacuation_word}
 use Rattle.plain_table.proofs.PlaceReads.{same_space-tells}
-use Rattle.plain_table.proofs.WordPlaces.{limit_in, entry_place-from, entry_place-same, freelist_place-below}
+use Rattle.plain_table.proofs.WordPlaces.{entry_place-from, entry_place-same, freelist_place-below}
 use Rattle.word_laws.proofs.ShownParts.{SpaceIn, SpacesShown, Shown}
 use Rattle.word_laws.proofs.WordChanges.{Changed, AreWithin, LowShown-kept, HeapShown-kept}
 

@@ -1,13 +1,15 @@
--- Reading a freelist word: its head is the least free index, or its length is 0 and each committed index is used.
+-- Reading a freelist word: its head is the least free index, or its length is 0, its head is the end of the committed
+-- segments, and each committed index is used.
 use Rattle.std.proofs.Common.{◌≡◌, ◌≢◌, ◌-◌, ◌/◌, ◌%◌, ◌^◌, ◌<◌, ◌≤◌, ℕ, zero, suc, Bool, true, not, slice_index, Option, Some, None, unwrap_or, IsTrue, refl, sym, ap, ap₂, ◌∙◌, inl, inr, arith, lt-ltb, le-ltb}
 use Rattle.std.specs.Prelude.{if◌then◌else◌, nat_lt}
 use Rattle.std.proofs.lemmas.Bool.{cases_lt, cases_Bool, not_from_true, not_from_false}
 use Rattle.plain_table.specs.declared.events.Space.{Space}
 use Rattle.plain_table.specs.Area.{count_below}
-use Rattle.plain_table.specs.Table.{Table, limit_of, least_from}
+use Rattle.plain_table.specs.Table.{Table, limit_of, least_from, least_free}
 use Rattle.plain_table.specs.Words.{freelist_place, entry_place, freelist_word, next_free}
 use Rattle.plain_table.specs.Shows.{entry_at}
 use Rattle.word_laws.specs.WordLaws.{FreelistTells, FreelistsTell}
+use Rattle.plain_table.proofs.SegmentEnds.{segment-fits}
 use Rattle.plain_table.proofs.LeastFree.{least_from-found, least_from-none}
 use Rattle.plain_table.proofs.FreeReads.{least_from-some}
 use Rattle.plain_table.proofs.FreeLists.{least_from-all, least_from-more, count_below-none, count_below-some}
@@ -16,14 +18,15 @@ use Rattle.word_laws.proofs.ShownParts.{IsMarkIn, SpaceIs, ShownParts-Shows}
 -- a freelist word of indexes below `committed`, which fit 32 bits
 module _ (used : ℕ → Bool) (limit committed word : ℕ) (list : word ≡ freelist_word (next_free used 1 committed) (count_below (λ i. not (used i)) committed)) (within : committed ≤ limit) (few : limit < 2 ^ 32) where
   -- an empty one
-  pub list-none : IsTrue (used 0) → least_from used 1 (committed - 1) ≡ None → (word / 2 ^ 32 ≡ 0) × ((k : ℕ) → k < committed → used k ≡ true)
+  pub list-none : IsTrue (used 0) → least_from used 1 (committed - 1) ≡ None →
+      (word / 2 ^ 32 ≡ 0) × ((k : ℕ) → k < committed → used k ≡ true) × (word % 2 ^ 32 ≡ committed)
   list-none first none =
       let all : (k : ℕ) → k < committed → used k ≡ true = each in
       let count : count_below (λ i. not (used i)) committed ≡ 0 =
       count_below-none (λ i. not (used i)) committed (λ k below. not_from_true (used k) (all k below)) in
       let head : next_free used 1 committed ≡ committed = ap (λ found. unwrap_or found committed) none in
       let whole : word ≡ freelist_word committed 0 = list ∙ ap₂ freelist_word head count in
-      (omega (arith, whole, within, few), all)
+      (omega (arith, whole, within, few), all, omega (arith, whole, within, few))
     where
       each : (k : ℕ) → k < committed → used k ≡ true
       each zero below = first
@@ -80,9 +83,12 @@ module _ (s : Table) (p : Space) (entry : ℕ → ℕ) (word committed : ℕ) (f
         within = is.within;
         used = is.taken;
         none = λ zero. told.1;
+        end = λ zero. told.2;
         least = λ zero. least_free-committed (s.used p) (limit_of s p) committed (omega (arith, is.taken 0 first)) is.within told.1 is.taken;
         some = λ more. absurd (more told.0);
         links = is.free;
+        closed = is.closed;
+        room = segment-fits s.sizes p committed is.segments.0 is.segments.1;
       }
   FreelistTells-by (Some k) found =
       let told = list-some (s.used p) (limit_of s p) committed word is.list is.within few k found in
@@ -91,9 +97,12 @@ module _ (s : Table) (p : Space) (entry : ℕ → ℕ) (word committed : ℕ) (f
         within = is.within;
         used = is.taken;
         none = λ zero. absurd (told.2 (sym told.1 ∙ zero));
+        end = λ zero. absurd (told.2 (sym told.1 ∙ zero));
         least = λ zero. absurd (told.2 (sym told.1 ∙ zero));
         some = λ more. (told.4 ∙ ap Some (sym told.0), omega (arith, told.0, told.3));
         links = is.free;
+        closed = is.closed;
+        room = segment-fits s.sizes p committed is.segments.0 is.segments.1;
       }
 
 pub FreelistsTell-shown : FreelistsTell
@@ -103,3 +112,11 @@ FreelistsTell-shown words s p h shows few =
       FreelistTells-by s p (λ i. slice_index words (entry_place s.sizes p i)) (slice_index words (freelist_place p)) space.0 h few space.1
           (least_from (s.used p) 1 (space.0 - 1)) refl,
     )
+
+-- an empty list whose head is not below the limit leaves no free index
+pub FreelistTells-full : (s : Table) (p : Space) (entry : ℕ → ℕ) (head len committed : ℕ) → FreelistTells s p entry head len committed →
+    len ≡ 0 → limit_of s p ≤ head → least_free s p ≡ None
+FreelistTells-full s p entry head len committed tells none past =
+    tells.least none
+    ∙ ap (λ (test : Bool). if test then Some committed else None)
+    (le-ltb committed (limit_of s p) (let end = tells.end none in omega (arith, end, past)))

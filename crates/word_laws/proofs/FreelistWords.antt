@@ -13,26 +13,18 @@ use Rattle.plain_table.specs.declared.reports.Reply.{Reply}
 use Rattle.plain_table.specs.declared.reports.Reply.TheVariants as reply
 use Rattle.plain_table.specs.Places.{put_entry}
 use Rattle.plain_table.specs.Area.{count_below}
-use Rattle.plain_table.specs.Table.{Table, Sizes, limit_of, least_from, least_free}
+use Rattle.plain_table.specs.Table.{Table, Sizes, limit_of, least_from, least_free, limit_in}
 use Rattle.plain_table.specs.Rows.{row, free_below, with_taken}
 use Rattle.plain_table.specs.Words.{freelist_place, entry_place, free_word, freelist_word, next_free}
 use Rattle.plain_table.specs.Shows.{Shows}
 use Rattle.word_laws.specs.WordLaws.{TakesFrom, FreelistWordsFollow}
 use Rattle.plain_table.proofs.PlaceReads.{same_space-tells, read_entry}
-use Rattle.plain_table.proofs.FreeReads.{least_from-some, free_below-some}
+use Rattle.plain_table.proofs.FreeReads.{next_free-le, least_from-some, free_below-some}
 use Rattle.plain_table.proofs.FreeLists.{least_from-before, least_from-same, least_from-past, count_below-less}
-use Rattle.plain_table.proofs.WordPlaces.{limit_in, entry_place-from, freelist_place-below, freelist_place-same, freelist-apart-area}
+use Rattle.plain_table.proofs.WordPlaces.{entry_place-from, freelist_place-below, freelist_place-same, freelist-apart-area}
 use Rattle.word_laws.proofs.ShownParts.{SpaceIs, SpaceIn, LowShown, SpacesShown, Shown, ShownParts, ShownParts-Shows, Shows-ShownParts}
 use Rattle.word_laws.proofs.WordChanges.{Changed, Changed-slice_set, HeapShown-kept}
 use Rattle.word_laws.proofs.FreelistReads.{list-none, list-some}
-
--- a next free index is not past the end
-next_free-within : (used : ℕ → Bool) (i end : ℕ) → i ≤ end → next_free used i end ≤ end
-next_free-within used i end low = by_case (least_from used i (end - i)) refl
-  where
-    by_case : (found : Option ℕ) → least_from used i (end - i) ≡ found → unwrap_or found end ≤ end
-    by_case None is = omega arith
-    by_case (Some k) is = let told = least_from-some used i (end - i) k is in omega (arith, told.2, low)
 
 -- a space behind a take of the head of its list: the index is used and links the next one, which becomes the head
 module _ {seg limit : ℕ} {used other : ℕ → Bool} {cells : ℕ → Option Cell} {evac : ℕ → Option ℕ} {IsMark : ℕ → Bool → Type 0} {entry entry_new : ℕ → ℕ} {freelist freelist_new committed : ℕ} (i link len : ℕ) where
@@ -56,7 +48,7 @@ module _ {seg limit : ℕ} {used other : ℕ → Bool} {cells : ℕ → Option C
     empty = λ k stands. elim (eqb_tells i k) [
       | inl e ↦ (
         next_free used (i + 1) committed,
-        omega (arith, next_free-within used (i + 1) committed (omega (arith, below)), is.within, few),
+        omega (arith, next_free-le used (i + 1) committed, is.within, few),
         reads k ∙ ap entry (sym e.1) ∙ is.free i some below free,
       )
       | inr e ↦

@@ -9,3 +9,17 @@ pub mod CountWords
 pub mod HeaderWords
 pub mod FreelistReads
 pub mod FreelistWords
+pub mod NearWords
+pub mod CommittedSpaces
+pub mod CommittedWords
+pub mod CoveredWords
+pub mod CoverSteps
+pub mod EntryBits
+pub mod EntryReads
+pub mod LookReads
+pub mod AreaReads
+pub mod SmallSizes
+pub mod FreeBelowReads
+pub mod WordKinds
+pub mod EntryKinds
+pub mod PhaseReads

@@ -8,10 +8,9 @@ use Rattle.plain_table.specs.declared.events.Field.{Field}
 use Rattle.plain_table.specs.Places.{object_of}
 use Rattle.plain_table.specs.Area.{count_below}
 use Rattle.plain_table.specs.Cycle.{Cycle}
-use Rattle.plain_table.specs.Table.{Table, Sizes, limit_of}
+use Rattle.plain_table.specs.Table.{Table, Sizes, limit_of, limit_in}
 use Rattle.plain_table.specs.Words.{area_place, count_place, phase_place, freelist_place, global_place, header_place, reference_place, field_place, entry_place, words_in_all, object_word, cell_word, free_word, evacuation_word, no_access_word, freelist_word, next_free, area_word, phase_word}
 use Rattle.plain_table.specs.Shows.{entry_at, SpaceShows, IsHeader, Shows}
-use Rattle.plain_table.proofs.WordPlaces.{limit_in}
 
 -- a mark bit that a word may have at an index: any where no cycle is under way, and else just what its marks tell
 abbrev pub IsMarkIn : Option Cycle → Space → ℕ → Bool → Type 0

@@ -7,12 +7,12 @@ use Rattle.plain_table.specs.declared.events.Cell.{Cell}
 use Rattle.plain_table.specs.declared.events.Space.{Space}
 use Rattle.plain_table.specs.declared.events.Space.TheVariants.{External, Trusted}
 use Rattle.plain_table.specs.declared.events.Field.{Field}
-use Rattle.plain_table.specs.Table.{Table, Sizes}
+use Rattle.plain_table.specs.Table.{Table, Sizes, limit_in}
 use Rattle.plain_table.specs.Words.{freelist_place, header_place, reference_place, field_place, entry_place}
 use Rattle.plain_table.specs.Shows.{entry_at}
 use Rattle.word_laws.specs.WordLaws.{HasSoundIndexes}
 use Rattle.plain_table.proofs.PlaceReads.{Read}
-use Rattle.plain_table.proofs.WordPlaces.{limit_in, field_place-from, field_place-below, entry_place-from}
+use Rattle.plain_table.proofs.WordPlaces.{field_place-from, field_place-below, entry_place-from}
 use Rattle.word_laws.proofs.ShownParts.{SpaceIs, LowShown, HeapShown, SpacesShown}
 
 pub record Changed (words changed : List ℕ) (place w : ℕ) : Type 0 where

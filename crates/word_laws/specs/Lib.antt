@@ -1,1 +1,6 @@
 pub mod WordLaws
+pub mod Small
+pub mod SegmentLaws
+pub mod CoverLaws
+pub mod ReadLaws
+pub mod Kinds

@@ -23,7 +23,7 @@ use Rattle.plain_table.specs.Finish.{id_at}
 use Rattle.plain_table.specs.Rows.{object_in}
 use Rattle.plain_table.specs.History.{IsLegal, next}
 use Rattle.plain_table.specs.Sound.{UsedSound, entries_in}
-use Rattle.plain_table.specs.Words.{area_place, count_place, freelist_place, global_place, header_place, reference_place, field_place, entry_place, object_word, cell_word, free_word, evacuation_word, freelist_word, next_free, area_word, header_word}
+use Rattle.plain_table.specs.Words.{area_place, count_place, freelist_place, global_place, header_place, reference_place, field_place, entry_place, object_word, cell_word, free_word, evacuation_word, no_access_word, freelist_word, next_free, area_word, header_word}
 use Rattle.plain_table.specs.Shows.{Shows, is_black}
 
 -- the events that write no word
@@ -134,17 +134,21 @@ FreelistWordsFollow =
     slice_index words (freelist_place p) / 2 ^ 32 ≡ len + 1 → slice_index words (entry_place s.sizes p i) ≡ free_word link →
     Shows (slice_set words (freelist_place p) (freelist_word link len)) (next s e)
 
--- what the freelist word of a space tells: where its length is 0, every index of a committed segment is used, and the
--- least free index, where there is one, is the first one that is not committed; and else its head is the least free index
+-- what the freelist word of a space tells: where its length is 0, its head is the end of the committed segments, each of
+-- whose indexes is used, and the least free index, where there is one, is the head; and else the head is that index
 pub record FreelistTells (s : Table) (p : Space) (entry : ℕ → ℕ) (head len committed : ℕ) : Type 0 where
   pub segments : (n : ℕ) × (committed ≡ n * s.sizes.seg)
   pub within : committed ≤ limit_of s p
   pub used : (i : ℕ) → IsTrue (s.used p i) → i < committed
   pub none : len ≡ 0 → (i : ℕ) → i < committed → IsTrue (s.used p i)
+  pub end : len ≡ 0 → head ≡ committed
   pub least : len ≡ 0 → least_free s p ≡ (if nat_lt committed (limit_of s p) then Some committed else None)
   pub some : len ≢ 0 → (least_free s p ≡ Some head) × (head < committed)
   -- each free entry links the next free index, and the last one the end of the committed segments
   pub links : (i : ℕ) → 1 ≤ i → i < committed → s.used p i ≡ false → entry i ≡ free_word (next_free (s.used p) (i + 1) committed)
+  -- the others have no access, and where there is one, a whole segment has
+  pub closed : (i : ℕ) → committed ≤ i → i < limit_of s p → entry i ≡ no_access_word
+  pub room : committed < limit_of s p → committed + s.sizes.seg ≤ limit_of s p
 
 abbrev pub FreelistsTell : Type 0
 FreelistsTell =

@@ -7,7 +7,7 @@ mod refusals;
 use self::histories::LEGAL;
 use self::made::{append, events_of};
 use self::refusals::REFUSALS;
-use plain_program::{State, replay, step};
+use plain_program::{State, area_start, replay, step};
 use plain_table::{Act, Event, Field, Limits, Policy, Reply, Space};
 use std::alloc::Global;
 use std::process::Abort;
@@ -61,7 +61,8 @@ fn look(word: u32, tag: u8, said: Reply) -> Event {
         Act::Look {
             space: SPACE,
             word,
-            tag,
+            first: tag,
+            last: tag,
         },
         said,
     )
@@ -70,7 +71,8 @@ fn look(word: u32, tag: u8, said: Reply) -> Event {
 fn set(tag: u8) -> Event {
     let act = Act::Set {
         word: 0x0001_0001,
-        tag,
+        first: tag,
+        last: tag,
         value: 0xc1,
     };
     event(act, Reply::Ok)
@@ -79,7 +81,8 @@ fn set(tag: u8) -> Event {
 fn swap(said: u64) -> Event {
     let act = Act::Swap {
         word: 0x0001_0000,
-        tag: 0x0f,
+        first: 0x0f,
+        last: 0x0f,
         value: 0xc2,
     };
     event(act, Reply::Value(said))

@@ -1,5 +1,5 @@
 use Rattle.table_laws.proofs.fresh_images_show_the_opening.Goals as goal
-use Rattle.table_laws.proofs.OpeningShows.{IsLawful-fresh}
+use Rattle.plain_table.proofs.OpeningShows.{IsLawful-fresh}
 
 pub returns : goal.returns
 returns c = IsLawful-fresh

@@ -1,5 +1,5 @@
 use Rattle.table_laws.proofs.StoredValues.{values-stored}
-use Rattle.table_laws.proofs.OpeningSound.{IsSound-opening}
+use Rattle.plain_table.proofs.OpeningSound.{IsSound-opening}
 use Rattle.table_laws.proofs.Soundness.{events-sound}
 use Rattle.table_laws.proofs.values_were_stored.Goals as goal
 

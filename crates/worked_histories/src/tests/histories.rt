@@ -75,6 +75,21 @@ const A_CELL_IS_LOADED_UNDER_ITS_TAG: Parts = &[
     &[Raw(External, 0x1_0000, 0x17, Fault), Name(0, 1)],
 ];
 
+const A_RANGE_OF_TAGS_FINDS_EACH_TAG_IN_IT: Parts = &[
+    &[New(0, 0), InitTag(0, 1, 0x20, 0xc0), Name(0, 1)],
+    &[
+        Asked(External, 0x1_0000, 0x1f, 0x21, Value(0xc0)),
+        Name(0, 1),
+    ],
+    &[Raw(External, 0x1_0000, 0x20, Value(0xc0)), Name(0, 1)],
+    &[Asked(External, 0x1_0000, 0x21, 0xff, Fault), Name(0, 1)],
+    &[StoreAsked(0x1_0000, 0x01, 0xff, 0xc0, 0xc1)],
+    &[Asked(External, 0x1_0000, 0x01, 0x1f, Fault), Name(0, 1)],
+    &[Raw(External, 0x1_0000, 0x20, Value(0xc1))],
+    &[TNew(0, 1, 0xff, 0xd0), TPub(0, 1)],
+    &[Asked(Trusted, 0x1_0000, 0xfe, 0xff, Value(0xd0))],
+];
+
 const OTHER_WORDS_GIVE_NULL_OR_A_FAULT: Parts = &[
     ONE_CELL,
     &[Look(0, Null), Raw(External, 0xffff, TAG, Null)],
@@ -374,6 +389,7 @@ const FOUR_CELLS_TAKE_THE_LEAST_INDEXES: Parts = &[FOUR_CELLS, &[Take(5)]];
 pub const LEGAL: &[(u32, u32, Parts)] = &[
     (1, 1, &[]),
     (1, 1, A_CELL_IS_LOADED_UNDER_ITS_TAG),
+    (1, 1, A_RANGE_OF_TAGS_FINDS_EACH_TAG_IN_IT),
     (1, 1, OTHER_WORDS_GIVE_NULL_OR_A_FAULT),
     (1, 1, A_STORE_UNDER_ANOTHER_TAG_CHANGES_NOTHING),
     (1, 1, A_FORGED_WORD_REACHES_A_CELL),

@@ -28,8 +28,13 @@ pub enum Made {
     /// The field has the word of the index, and a look there answers so.
     Load(u32, u32, Reply),
     Look(u32, Reply),
-    /// A look at any word under any tag.
+    /// A look at any word under any tag, and under any range of tags from the first to the last.
     Raw(Space, u32, u8, Reply),
+    Asked(Space, u32, u8, u8, Reply),
+    /// The field gets a new cell at the index with the tag and the value.
+    InitTag(u32, u32, u8, u64),
+    /// A store at any word under any range, and the old value that it finds.
+    StoreAsked(u32, u8, u8, u64, u64),
     /// A store at any word, and an exchange at an index, behind a look that finds the old value.
     Store(u32, u64, u64),
     Swap(u32, u64, u64),
@@ -89,15 +94,36 @@ fn append_one(events: &mut Vec<Event>, made: Made) -> Result<(), Fail> {
         }
         Made::Look(index, said) => look(events, Space::External, word_of(index), TAG, said),
         Made::Raw(space, word, tag, said) => look(events, space, word, tag, said),
-        Made::Store(word, old, value) => {
-            let tag = TAG;
-            look(events, Space::External, word, tag, Reply::Value(old))?;
-            push(events, 0, Act::Set { word, tag, value }, Reply::Ok)
+        Made::Asked(space, word, first, last, said) => ask(
+            events,
+            space,
+            word,
+            (first, last),
+            said,
+        ),
+        Made::InitTag(number, index, tag, value) => {
+            take(events, Space::External, index)?;
+            put(events, Space::External, index, tag, value)?;
+            bind(events, Field::External { number }, index, Reply::Ok)
         }
+        Made::Store(word, old, value) => store(events, word, (TAG, TAG), old, value),
+        Made::StoreAsked(word, first, last, old, value) => store(
+            events,
+            word,
+            (first, last),
+            old,
+            value,
+        ),
         Made::Swap(index, old, value) => {
-            let (word, tag) = (word_of(index), TAG);
-            look(events, Space::External, word, tag, Reply::Value(old))?;
-            push(events, 0, Act::Swap { word, tag, value }, Reply::Value(old))
+            let (word, first, last) = (word_of(index), TAG, TAG);
+            look(events, Space::External, word, TAG, Reply::Value(old))?;
+            let act = Act::Swap {
+                word,
+                first,
+                last,
+                value,
+            };
+            push(events, 0, act, Reply::Value(old))
         }
         Made::Forge(number, index) => {
             let word = word_of(index);
@@ -175,7 +201,38 @@ fn name(events: &mut Vec<Event>, field: Field, index: u32) -> Result<(), Fail> {
 }
 
 fn look(e: &mut Vec<Event>, space: Space, word: u32, tag: u8, said: Reply) -> Result<(), Fail> {
-    push(e, 0, Act::Look { space, word, tag }, said)
+    ask(e, space, word, (tag, tag), said)
+}
+
+/// A look under the range from the first to the last tag.
+fn ask(
+    e: &mut Vec<Event>,
+    space: Space,
+    word: u32,
+    range: (u8, u8),
+    said: Reply,
+) -> Result<(), Fail> {
+    let (first, last) = range;
+    let act = Act::Look {
+        space,
+        word,
+        first,
+        last,
+    };
+    push(e, 0, act, said)
+}
+
+/// A look that finds the old value, and a store of another one.
+fn store(e: &mut Vec<Event>, word: u32, range: (u8, u8), old: u64, value: u64) -> Result<(), Fail> {
+    ask(e, Space::External, word, range, Reply::Value(old))?;
+    let (first, last) = range;
+    let act = Act::Set {
+        word,
+        first,
+        last,
+        value,
+    };
+    push(e, 0, act, Reply::Ok)
 }
 
 fn start(events: &mut Vec<Event>, policy: Policy) -> Result<(), Fail> {

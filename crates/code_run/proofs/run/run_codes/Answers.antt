@@ -42,7 +42,7 @@ returns-clause-ran g c =
     (view c.split-first.result) (view c.split-second.result) (view c.split-third.result) (view c.split-fourth.result)
     c.args.n c.run_four-first.result.0.0.1 c.run_four-first.result.0.1.1 c.run_four-first.result.1.0.1 c.run_four-first.result.1.1.1
     c.requires.n.1 open_seat is_s wrote.one wrote.two read.one read.two
-    (fa.parts, fb.parts, fc.parts, fd.parts)
+    (fa.parts, fb.parts, fc.parts, fd.parts) fc.start fd.start
     c.join.ensures.joined c.join-2.ensures.joined c.join-3.ensures.joined c.join-4.ensures.joined
     c.join.ensures.seen c.join-2.ensures.seen c.join-3.ensures.seen c.join-4.ensures.seen
     (let a = c.split-fourth.ensures.callers.0.0.1.sized in let b = c.split-fourth.ensures.callers.0.0.1.shown in omega arith)
@@ -57,3 +57,4 @@ returns-clause-ran g c =
     (let a = read.callers.0.0.1.sized in omega arith)
     (let a = read.callers.1.0.1.sized in omega arith)
     c.join-4.ensures.whole c.join-4.ensures.own
+    _ (omega arith) (omega arith) (omega arith) (omega arith) (omega arith)

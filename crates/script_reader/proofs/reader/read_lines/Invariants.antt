@@ -7,10 +7,10 @@ use Rattle.script_reader.proofs.reader.read_lines.Given as goal
 
 abbrev pub invariant-loop-piece : goal.invariant-loop-piece
 invariant-loop-piece l = record {
-  read : lines_from l.limits (opening l.limits) l.first (pieces l.fn.lines)
-      ≡ lines_from l.limits l.draft l.line (pieces l.rest);
+  read : lines_from l.header.limits (opening l.header) l.first (pieces l.fn.lines)
+      ≡ lines_from l.header.limits l.draft l.line (pieces l.rest);
   line : l.line + length l.rest ≤ l.first + length l.fn.lines;
-  draft : IsDraft l.limits l.draft;
+  draft : IsDraft l.header.limits l.draft;
 }
 
 abbrev pub decreases-loop-piece : goal.decreases-loop-piece

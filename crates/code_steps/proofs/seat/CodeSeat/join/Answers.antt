@@ -1,9 +1,9 @@
 use Rattle.std.proofs.Common.{◌≡◌, ℕ, ◌∙◌, sym, ap, subst, length, arith}
 use Rattle.code_steps.specs.declared.view.View.{View}
-use Rattle.code_steps.specs.Lists.{StartsWith, list_at}
-use Rattle.code_steps.specs.Views.{both}
+use Rattle.code_steps.specs.Lists.{StartsWith, list_at, total}
+use Rattle.code_steps.specs.Views.{both, known_at}
 use Rattle.code_steps.specs.Seats.{HasPlace}
-use Rattle.code_steps.proofs.JoinKeeps.{joins, both_place, begins_both}
+use Rattle.code_steps.proofs.JoinKeeps.{joins, both_place, begins_both, both_known}
 use Rattle.code_steps.proofs.Whole.{learns}
 use Rattle.code_steps.proofs.seat.CodeSeat.join.Goals as goal
 
@@ -45,3 +45,9 @@ returns-clause-seen c =
     let told : (i : ℕ) → StartsWith (list_at (both c.args.self.now.seat.me.0 c.args.other.seat.me.0).seen i) (list_at (both c.args.self.now.seat.me.0 c.args.other.seat.me.0).told i) = subst (λ (v : View). (i : ℕ) → StartsWith (list_at v.seen i) (list_at v.told i)) was l.2.1.told in
     subst (λ (v : View). (i : ℕ) → StartsWith (list_at v.seen i) (list_at c.args.self.now.seat.me.0.seen i) × StartsWith (list_at v.seen i) (list_at c.args.other.seat.me.0.seen i)) (sym (l.2.0 ∙ was))
     (begins_both c.args.self.now.seat.me.0 c.args.other.seat.me.0 same told)
+
+pub returns-clause-known : goal.returns-clause-known
+returns-clause-known c = λ i weight.
+    let r = c.requires in
+    let is : c.load.new.seat.me.0 ≡ both c.args.self.now.seat.me.0 c.args.other.seat.me.0 = c.load.ensures.2.0 ∙ ap (λ m. m.0) c.join_seat.ensures.2 in
+    ap (λ (v : View). total weight (known_at v i)) is ∙ both_known _ c.args.self.now.seat.me.0 c.args.other.seat.me.0 i weight r.0.0.1 r.1.0.1

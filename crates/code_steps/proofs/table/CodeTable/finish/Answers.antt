@@ -1,19 +1,11 @@
-use Rattle.std.proofs.Common.{◌≡◌, ◌≢◌, ◌<◌, length, sym, ◌∙◌, subst, arith, below_more, get_or-set_other, get_or-set_same, length-set, ext_get_or}
+use Rattle.std.proofs.Common.{rules, ◌≡◌, length, sym, ◌∙◌, subst, arith, length-set, ext_get_or}
 use Rattle.std.specs.Slots.{slots_items}
 use Rattle.code_steps.specs.Seats.{view, ShowLast}
-use Rattle.code_steps.proofs.Closing.{got, closes}
+use Rattle.code_steps.proofs.Closing.{words_read, closes}
 use Rattle.code_steps.proofs.table.CodeTable.finish.Goals as goal
 
 pub loop-i-preserved : goal.loop-i-preserved
-loop-i-preserved c =
-    let i = c.loop-i.invariant in
-    let room : c.loop-i.i < length c.loop-i.room.items = let t = c.loop-i-test.true in let l = c.len-i-end.ensures in let r = i.room in omega arith in
-    record {
-      room = length-set c.loop-i.room.items c.loop-i.i c.word.result ∙ i.room;
-      done = below_more _ _
-          (λ k l. let ne : k ≢ c.loop-i.i = omega arith in get_or-set_other c.loop-i.room.items c.loop-i.i k c.word.result 0 ne ∙ i.done k l)
-          (get_or-set_same c.loop-i.room.items c.loop-i.i c.word.result 0 room ∙ sym (got c.close_with-closed.result.words.items c.loop-i.i c.word.result c.word.ensures));
-    }
+loop-i-preserved c = record { room = search (rules, length-set); done = search (rules, words_read) }
 
 pub returns-clause-last : goal.returns-clause-last
 returns-clause-last c =

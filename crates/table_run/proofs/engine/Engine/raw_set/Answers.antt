@@ -8,5 +8,5 @@ use Rattle.table_run.proofs.engine.Engine.raw_set.Goals as goal
 
 pub returns : goal.returns
 returns c = λ s h.
-    subst (λ (said : Reply). Plays c.args.self.now c.exchange.new.self s (op.RawSet c.args.word c.args.tag c.args.value) said) (sym c.stored.ensures)
-    (plays_raw_set c.args.self.now c.exchange.new.self c.args.word c.args.tag c.args.value c.exchange.result c.requires.small s (c.exchange.ensures s h))
+    subst (λ (said : Reply). Plays c.args.self.now c.exchange.new.self s (op.RawSet c.args.word c.args.first c.args.last c.args.value) said) (sym c.stored.ensures)
+    (plays_raw_set c.args.self.now c.exchange.new.self c.args.word c.args.first c.args.last c.args.value c.exchange.result c.requires.small s (c.exchange.ensures s h))

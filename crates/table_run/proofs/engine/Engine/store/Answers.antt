@@ -10,8 +10,8 @@ use Rattle.table_run.proofs.engine.Engine.store.Goals as goal
 pub returns-in-Some : goal.returns-in-Some
 returns-in-Some c = λ s h.
     let at = field_of_variable c.args.self.now c.args.var c.args.f c.in-Some.field c.in-Some.ensures.number in
-    subst (λ (said : Reply). Plays c.args.self.now c.exchange.new.self s (op.Store c.args.var c.args.f c.args.tag c.args.value) said) (sym c.stored.ensures)
-    (plays_store c.args.self.now c.exchange.new.self c.args.var c.args.f c.args.tag c.args.value at.object c.index-word.result.now c.exchange.result
+    subst (λ (said : Reply). Plays c.args.self.now c.exchange.new.self s (op.Store c.args.var c.args.f c.args.first c.args.last c.args.value) said) (sym c.stored.ensures)
+    (plays_store c.args.self.now c.exchange.new.self c.args.var c.args.f c.args.first c.args.last c.args.value at.object c.index-word.result.now c.exchange.result
     c.requires.variable c.requires.field c.requires.small at.held
     (read_at c.args.self.now.fields c.in-Some.field (2 * at.object + c.args.f) c.index-word.result.now c.index-word.ensures c.in-Some.ensures.within at.is)
     s h (c.exchange.ensures s h))

@@ -1,0 +1,3 @@
+pub mod NextFree
+pub mod Freelists
+pub mod Ranks

@@ -1,0 +1,11 @@
+pub mod Phases
+pub mod Objects
+pub mod TrustedProof
+pub mod MarkerProof
+pub mod CompactionProof
+pub mod PauseKeeps
+pub mod ForcedCalls
+pub mod AnyHistory
+pub mod TrustedMisses
+pub mod ScansMay
+pub mod NotDueProof

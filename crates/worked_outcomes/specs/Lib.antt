@@ -1,0 +1,5 @@
+pub mod TrustedEntries
+pub mod ConcurrentMarker
+pub mod Compactions
+pub mod NotDue
+pub mod WorkedLaws
