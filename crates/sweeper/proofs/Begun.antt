@@ -17,11 +17,12 @@ use Rattle.sweeper.specs.Roots.{is_held, AreHeld}
 use Rattle.std.specs.List.{Contains}
 use Rattle.plain_table.specs.Cycle.{Cycle}
 use Rattle.sweeper.specs.declared.area.Area.{Area}
-use Rattle.sweeper.specs.declared.sweeps.Shape.{Shape}
+use Rattle.entry_word.specs.declared.image.Shape.{Shape}
 use Rattle.sweeper.specs.Begin.{Begins}
 use Rattle.sweeper.specs.Roots.{members_below}
 use Rattle.sweeper.specs.Usage.{DecidesArea}
-use Rattle.sweeper.specs.Whole.{sizes_of, IsSmallShape}
+use Rattle.entry_word.specs.Image.{sizes_of}
+use Rattle.sweeper.specs.Whole.{IsSmallShape}
 use Rattle.sweeper.proofs.HeldRoots.{member-if, member-of, members-ascend}
 use Rattle.sweeper.proofs.SweptImages.{AreSmall-shape}
 use Rattle.sweeper.proofs.Started.{SpaceShows-started}

@@ -13,9 +13,10 @@ use Rattle.plain_table.specs.Sound.{IsSound}
 use Rattle.plain_table.proofs.Options.{IfSome-is}
 use Rattle.table_laws.proofs.Soundness.{events-sound}
 use Rattle.table_laws.proofs.Steadiness.{events-steady}
-use Rattle.sweeper.specs.declared.sweeps.Shape.{Shape}
+use Rattle.entry_word.specs.declared.image.Shape.{Shape}
 use Rattle.sweeper.specs.Late.{IsLateStart, IsLateEnd, IsLateFrom, LateMarks}
-use Rattle.sweeper.specs.Whole.{sizes_of, IsSmallShape}
+use Rattle.entry_word.specs.Image.{sizes_of}
+use Rattle.sweeper.specs.Whole.{IsSmallShape}
 use Rattle.sweeper.proofs.Calm.{IsCalm, IsKeptBy, calm-after, kept-after}
 use Rattle.sweeper.proofs.SweptImages.{AreSmall-shape}
 

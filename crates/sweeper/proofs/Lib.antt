@@ -32,3 +32,4 @@ pub mod ScanRoom
 pub mod NextFits
 pub mod LateSteps
 pub mod LateImages
+pub mod ValidShapes

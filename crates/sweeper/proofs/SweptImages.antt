@@ -18,8 +18,9 @@ use Rattle.sweeper.specs.Small.{AreSmall}
 use Rattle.sweeper.specs.Pass.{is_marked_word}
 use Rattle.sweeper.proofs.EntryKinds.{cell-kind-at}
 use Rattle.sweeper.proofs.Still.{cell-below}
-use Rattle.sweeper.specs.declared.sweeps.Shape.{Shape}
-use Rattle.sweeper.specs.Whole.{sizes_of, IsSmallShape}
+use Rattle.entry_word.specs.declared.image.Shape.{Shape}
+use Rattle.entry_word.specs.Image.{sizes_of}
+use Rattle.sweeper.specs.Whole.{IsSmallShape}
 use Rattle.plain_table.specs.declared.events.Space.{Space}
 use Rattle.sweeper.specs.Images.{IsAllScanned}
 

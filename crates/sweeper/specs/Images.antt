@@ -1,24 +1,15 @@
 -- Images as the model sees them, and when one may be swept.
-use Rattle.std.specs.Prelude.{◌≡◌, ℕ, ◌+◌, ◌*◌, ◌<◌, List, map, length, slice_index, slice_index_or, nat_lt, ◌&&◌, if◌then◌else◌, Option, Some, None}
-use Rattle.std.specs.Option.{option_map}
+use Rattle.std.specs.Prelude.{◌≡◌, ℕ, ◌+◌, ◌*◌, ◌<◌, List, length, slice_index, slice_index_or, nat_lt, ◌&&◌, if◌then◌else◌, Option, Some, None}
 use Rattle.plain_table.specs.declared.reports.SweepReport.{SweepReport}
 use Rattle.plain_table.specs.Cycle.{Cycle}
 use Rattle.plain_table.specs.Table.{Table}
 use Rattle.plain_table.specs.Finish.{CanFinish, finished}
 use Rattle.plain_table.specs.Words.{count_place, global_place}
 use Rattle.plain_table.specs.Sound.{IsSound}
-use Rattle.plain_table.specs.Shows.{Image, PendingCell, ImageShows, IsShaded, IsScanned, IsCovered}
+use Rattle.plain_table.specs.Shows.{Image, ImageShows, IsShaded, IsScanned, IsCovered}
 use Rattle.plain_table.specs.Sweeps.{IsSweep}
-use Rattle.sweeper.specs.declared.images.Image as images
-use Rattle.sweeper.specs.declared.images.Pending as pendings
+use Rattle.entry_word.specs.declared.image.Pending as pendings
 use Rattle.sweeper.specs.Pass.{is_marked_word}
-use Rattle.sweeper.specs.Whole.{sizes_of}
-
-abbrev pub pending_of : pendings.Pending → PendingCell
-pending_of p = record { index = p.index; tag = p.tag; value = p.value }
-
-abbrev pub image_of : images.Image → Image
-image_of i = record { sizes = sizes_of i.shape; words = i.words.items; variables = i.vars.items; pending = map (option_map pending_of) i.pending.items }
 
 -- each made object that is shaded, or stands in a global or a variable, has its scanned bit
 pub record IsAllScanned (image : Image) : Type 0 where

@@ -17,11 +17,9 @@ use Rattle.sweeper.specs.Small.{AreSmall}
 use Rattle.sweeper.specs.Pass.{is_cell_word, moved_after, entries_from}
 use Rattle.sweeper.specs.Ready.{IsReady}
 use Rattle.sweeper.specs.Moves.{external_base}
-use Rattle.sweeper.specs.declared.sweeps.Shape.{Shape}
+use Rattle.entry_word.specs.declared.image.Shape.{Shape}
 
-abbrev pub sizes_of : Shape → Sizes
-sizes_of shape = record { seg = shape.seg; ext = shape.ext; tru = shape.tru; objects = shape.objects }
-
+-- what every valid shape has
 pub record IsSmallShape (shape : Shape) : Type 0 where
   pub seg : 1 ≤ shape.seg
   pub ext : (1 ≤ shape.ext) × (shape.seg * shape.ext ≤ 65536)

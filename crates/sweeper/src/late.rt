@@ -2,15 +2,16 @@
 ghost use Rattle.std.specs.Prelude.{◌≡◌, ◌+◌, ◌*◌, ◌≤◌, ◌<◌, ℕ, length, slice_index};
 ghost use Rattle.plain_table.specs.Shows.{IsLawful};
 ghost use Rattle.sweeper.specs.Begin.{HasRoom};
-ghost use Rattle.sweeper.specs.Images.{image_of, IsAllScanned};
+ghost use Rattle.entry_word.specs.Image.{IsValidShape, image_of};
+ghost use Rattle.sweeper.specs.Images.{IsAllScanned};
 ghost use Rattle.sweeper.specs.Late.{AreOwed, IsListedFirst, IsLateFrom, LateMarks, LateSome, NothingOwed};
-ghost use Rattle.sweeper.specs.Whole.{sizes_of, IsSmallShape};
+ghost use Rattle.entry_word.specs.Image.{sizes_of};
+ghost use Rattle.sweeper.specs.Whole.{IsSmallShape};
 
 use crate::area::Area;
-use crate::images::Image;
 use crate::marking::scan_all;
 use crate::shading::{shade_variables, shade_words};
-use crate::sweeps::Shape;
+use entry_word::{Image, Shape};
 
 const FIRST_GLOBAL: usize = 16;
 
@@ -51,7 +52,7 @@ fn mark_late(
 /// scanned, and all that these and the roots reach, is scanned; answers the number of scans. The scans are the pause of a
 /// finish (`IsPause` of the plain table), and nothing is owed after them.
 pub fn late_mark(image: &mut Image, area: &mut Area, shaded: &[u32]) -> u32
-    requires shape { IsSmallShape image.old.shape }
+    requires shape { IsValidShape image.old.shape }
     requires lawful { IsLawful (image_of image.old) }
     requires cycle { slice_index image.old.words.items 4 ≡ 1 }
     requires room { HasRoom area.old image.old.shape.objects }

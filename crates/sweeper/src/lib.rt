@@ -22,6 +22,5 @@ mod usage;
 
 pub use area::Area;
 pub use begins::begin;
-pub use images::{Image, Pending, sweep};
+pub use images::sweep;
 pub use late::late_mark;
-pub use sweeps::Shape;

@@ -3,12 +3,13 @@ ghost use Rattle.std.specs.Prelude.{◌≡◌, ◌+◌, ◌*◌, ◌<◌, ◌≤
 ghost use Rattle.plain_table.specs.Words.{words_in_all};
 ghost use Rattle.sweeper.specs.Marking.{IsObjectScanned, MarksSome, MarksFrom};
 ghost use Rattle.sweeper.specs.Shading.{header_of, white_in};
-ghost use Rattle.sweeper.specs.Whole.{sizes_of, IsSmallShape};
+ghost use Rattle.entry_word.specs.Image.{sizes_of};
+ghost use Rattle.sweeper.specs.Whole.{IsSmallShape};
 
 use crate::evacuation::visit_external;
 use crate::marks::mark;
 use crate::shading::shade_words;
-use crate::sweeps::Shape;
+use entry_word::Shape;
 
 /// A shaded object is scanned: the white objects that its references hold are shaded and listed, and its fields are
 /// visited. Answers the new length of the list.

@@ -1,19 +1,12 @@
 // The sweep of all words of a table.
 ghost use Rattle.std.specs.Prelude.{◌≡◌, ◌≢◌, ℕ, ◌+◌, ◌*◌, ◌/◌, ◌<◌, ◌≤◌, length, slice_index};
-ghost use Rattle.sweeper.specs.Whole.{sizes_of, moving_of, compaction_of, IsSmallShape, IsShownBySome, AreResolved, IsTidied, SweepsAll};
+ghost use Rattle.entry_word.specs.Image.{sizes_of};
+ghost use Rattle.sweeper.specs.Whole.{moving_of, compaction_of, IsSmallShape, IsShownBySome, AreResolved, IsTidied, SweepsAll};
 
 use crate::moves::{AreaSpan, move_cells};
 use crate::pass::{SpaceReport, Span, sweep_space};
+use entry_word::Shape;
 use plain_table::{Compaction, SweepReport};
-
-/// The sizes of an image.
-#[derive(Clone, Copy, Debug, PartialEq, Eq)]
-pub struct Shape {
-    pub seg: u32,
-    pub ext: u32,
-    pub tru: u32,
-    pub objects: u32,
-}
 
 /// Sweeps all words of a table in a cycle that may finish, and after it they show the finished table.
 pub(crate) fn sweep_words(words: &mut [u64], shape: Shape) -> SweepReport

@@ -2,9 +2,10 @@
 ghost use Rattle.std.specs.Prelude.{◌≡◌, ℕ, ◌+◌, ◌*◌, ◌/◌, ◌%◌, ◌^◌, ◌<◌, ◌≤◌, length, slice_index};
 ghost use Rattle.sweeper.specs.Pass.{entries_from};
 ghost use Rattle.sweeper.specs.Usage.{counted, usage_of, IsOutsideSome, DecidesArea};
-ghost use Rattle.sweeper.specs.Whole.{sizes_of, IsSmallShape};
+ghost use Rattle.entry_word.specs.Image.{sizes_of};
+ghost use Rattle.sweeper.specs.Whole.{IsSmallShape};
 
-use crate::sweeps::Shape;
+use entry_word::Shape;
 use evac_area::decide;
 use plain_table::Policy;
 

@@ -6,13 +6,17 @@ use Rattle.plain_table.specs.declared.events.Act.TheVariants.{Start}
 use Rattle.plain_table.specs.Finish.{started}
 use Rattle.table_laws.proofs.Soundness.{IsSound-row}
 use Rattle.sweeper.specs.Begin.{IsOpened, Begins}
-use Rattle.sweeper.specs.Images.{image_of, pending_of}
+use Rattle.entry_word.specs.Image.{image_of, pending_of}
 use Rattle.sweeper.specs.Roots.{AreHeld, members_below, is_held}
 use Rattle.sweeper.specs.Usage.{DecidesArea}
-use Rattle.sweeper.specs.Whole.{sizes_of}
+use Rattle.entry_word.specs.Image.{sizes_of}
 use Rattle.sweeper.specs.declared.area.Area.{Area}
+use Rattle.sweeper.proofs.ValidShapes.{IsSmallShape-valid}
 use Rattle.sweeper.proofs.Begun.{IsBegun-parts, cycle-none}
 use Rattle.sweeper.proofs.begins.begin.Goals as goal
+
+pub area_start-start-requires-clause-shape : goal.area_start-start-requires-clause-shape
+area_start-start-requires-clause-shape c = IsSmallShape-valid c.args.image.now.shape c.requires.shape
 
 pub returns-clause-tables : goal.returns-clause-tables
 returns-clause-tables c =
@@ -32,7 +36,7 @@ returns-clause-tables c =
     let decides = subst (λ (ws : List ℕ). DecidesArea ws (sizes_of shape) c.args.policy start) c.deref-4.ensures.value c.area_start-start.ensures in
     let opens = subst (λ (hs : List Bool). IsOpened image.words.items opened hs entries start) c.deref-5.ensures.value
     (subst (λ (ws : List ℕ). IsOpened ws opened c.deref-5.result.now entries start) c.deref_mut.ensures.value c.open_words.ensures) in
-    let core = IsBegun-parts shape image.words.items opened image.vars.items (map (option_map pending_of) image.pending.items) held c.args.policy area c.requires.shape are lists decides opens in
+    let core = IsBegun-parts shape image.words.items opened image.vars.items (map (option_map pending_of) image.pending.items) held c.args.policy area (IsSmallShape-valid c.args.image.now.shape c.requires.shape) are lists decides opens in
     subst (λ (ws : List ℕ). Begins (image_of image) (record { sizes = sizes_of shape; words = ws; variables = image.vars.items; pending = map (option_map pending_of) image.pending.items }) c.args.policy area)
     (sym words_is) core
 

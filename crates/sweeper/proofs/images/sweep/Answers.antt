@@ -12,10 +12,13 @@ use Rattle.plain_table.specs.Shows.{Image, PendingCell, Shows}
 use Rattle.plain_table.specs.Sweeps.{IsSweep}
 use Rattle.plain_table.specs.declared.reports.SweepReport.{SweepReport}
 use Rattle.table_laws.proofs.FinishSound.{IsSound-finish}
-use Rattle.sweeper.specs.declared.images.Pending.{Pending}
-use Rattle.sweeper.specs.declared.sweeps.Shape.{Shape}
-use Rattle.sweeper.specs.Images.{image_of, pending_of, pending_kept, AreKept, IsAllScanned, SweepsImage}
-use Rattle.sweeper.specs.Whole.{IsSmallShape, sizes_of, SweepsAll}
+use Rattle.entry_word.specs.declared.image.Pending.{Pending}
+use Rattle.entry_word.specs.declared.image.Shape.{Shape}
+use Rattle.entry_word.specs.Image.{image_of, pending_of}
+use Rattle.sweeper.specs.Images.{pending_kept, AreKept, IsAllScanned, SweepsImage}
+use Rattle.entry_word.specs.Image.{sizes_of}
+use Rattle.sweeper.specs.Whole.{IsSmallShape, SweepsAll}
+use Rattle.sweeper.proofs.ValidShapes.{IsSmallShape-valid}
 use Rattle.sweeper.proofs.SweptImages.{CanFinish-image, ImageShows-swept, cycle-some, AreSmall-shape, kept_by}
 use Rattle.sweeper.proofs.images.sweep.Goals as goal
 
@@ -78,6 +81,12 @@ swept-parts shape words swept vars pending kept report small scanned keeps sweep
         ∙ ap (kept_as s.sizes) (sym (get_or-map (option_map pending_of) pending b None d inside))
         ∙ same (get_or (pending_list pending) b d)
 
+pub drop_pending-requires-clause-shape : goal.drop_pending-requires-clause-shape
+drop_pending-requires-clause-shape c = IsSmallShape-valid c.args.image.now.shape c.requires.shape
+
+pub sweep_words-requires-clause-shape : goal.sweep_words-requires-clause-shape
+sweep_words-requires-clause-shape c = IsSmallShape-valid c.args.image.now.shape c.requires.shape
+
 pub returns-clause-tables : goal.returns-clause-tables
 returns-clause-tables c =
     let image = c.args.image.now in
@@ -93,7 +102,7 @@ returns-clause-tables c =
     let keeps = subst (λ (ws : List ℕ). AreKept image.pending.items kept ws base limit) c.deref.ensures.value
     (subst (λ (items : List (Option Pending)). AreKept items kept c.deref.result.now base limit) c.deref_mut.ensures.value c.drop_pending.ensures) in
     let sweeps = subst (λ (ws : List ℕ). SweepsAll ws words (sizes_of image.shape) c.sweep_words.result) c.deref_mut-2.ensures.value c.sweep_words.ensures in
-    let core = swept-parts image.shape image.words.items words image.vars.items image.pending.items kept c.sweep_words.result c.requires.shape c.requires.scanned keeps sweeps in
+    let core = swept-parts image.shape image.words.items words image.vars.items image.pending.items kept c.sweep_words.result (IsSmallShape-valid c.args.image.now.shape c.requires.shape) c.requires.scanned keeps sweeps in
     subst (λ (ws : List ℕ). SweepsImage old (image_by image.shape ws image.vars.items (with_items image.pending kept).items) c.sweep_words.result) (sym words_is)
     (subst (λ (items : List (Option Pending)). SweepsImage old (image_by image.shape words image.vars.items items) c.sweep_words.result) (sym kept_is) core)
 

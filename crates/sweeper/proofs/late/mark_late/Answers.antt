@@ -4,7 +4,7 @@ use Rattle.plain_table.specs.Table.{Sizes, Table}
 use Rattle.sweeper.specs.Late.{AreOwed, IsLateStart}
 use Rattle.plain_table.specs.Sweeps.{Was_linked}
 use Rattle.sweeper.specs.Shading.{white_in}
-use Rattle.sweeper.specs.Whole.{sizes_of}
+use Rattle.entry_word.specs.Image.{sizes_of}
 use Rattle.sweeper.proofs.LateSteps.{late-room, global-few, variable-few, marking-roots, NothingOwed-late, IsLateEnd-late}
 use Rattle.sweeper.proofs.late.mark_late.Goals as goal
 

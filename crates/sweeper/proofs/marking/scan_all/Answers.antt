@@ -1,7 +1,7 @@
 use Rattle.std.proofs.Common.{◌≡◌, ◌≤◌, ◌+◌, sym, subst, arith}
 use Rattle.sweeper.specs.Marking.{IsMarking}
 use Rattle.sweeper.specs.Shading.{white_in}
-use Rattle.sweeper.specs.Whole.{sizes_of}
+use Rattle.entry_word.specs.Image.{sizes_of}
 use Rattle.sweeper.proofs.MarkSteps.{marking-scanned}
 use Rattle.sweeper.proofs.NextFits.{IsNextFit-marking}
 use Rattle.sweeper.proofs.marking.scan_all.Goals as goal

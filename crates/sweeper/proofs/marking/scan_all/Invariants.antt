@@ -1,7 +1,7 @@
 use Rattle.std.proofs.Common.{◌≤◌, ◌+◌, ◌-◌, length}
 use Rattle.sweeper.specs.Marking.{MarksFrom}
 use Rattle.sweeper.specs.Shading.{white_in}
-use Rattle.sweeper.specs.Whole.{sizes_of}
+use Rattle.entry_word.specs.Image.{sizes_of}
 use Rattle.sweeper.proofs.marking.scan_all.Given as goal
 
 abbrev pub invariant-loop-next : goal.invariant-loop-next

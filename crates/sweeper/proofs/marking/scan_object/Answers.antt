@@ -1,7 +1,7 @@
 use Rattle.std.proofs.Common.{◌≡◌, ◌<◌, ◌+◌, ◌*◌, List, ℕ, length, slice_set, ap, subst, ◌∙◌, arith}
 use Rattle.sweeper.specs.Marking.{external_visits, trusted_visit, all_visited, object_scanned}
 use Rattle.sweeper.specs.Visits.{visited}
-use Rattle.sweeper.specs.Whole.{sizes_of}
+use Rattle.entry_word.specs.Image.{sizes_of}
 use Rattle.sweeper.proofs.ScanRoom.{IsObjectScanned-by}
 use Rattle.sweeper.proofs.marking.scan_object.Goals as goal
 

@@ -7,7 +7,8 @@ use Rattle.plain_table.specs.declared.events.Field.TheVariants as field
 use Rattle.plain_table.proofs.WordPlaces.{field_place-below}
 use Rattle.sweeper.specs.Pass.{Tally}
 use Rattle.sweeper.specs.Ready.{IsSpaceSwept}
-use Rattle.sweeper.specs.Whole.{sizes_of, IsShown, IsResolved, IsTidied}
+use Rattle.entry_word.specs.Image.{sizes_of}
+use Rattle.sweeper.specs.Whole.{IsShown, IsResolved, IsTidied}
 use Rattle.sweeper.proofs.Resolved.{compaction-is}
 use Rattle.sweeper.proofs.Finished.{Shows-finished, IsSweep-finished}
 use Rattle.sweeper.proofs.sweeps.sweep_words.Goals as goal

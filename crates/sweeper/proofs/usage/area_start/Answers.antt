@@ -1,5 +1,5 @@
 use Rattle.std.proofs.Common.{subst, sym, ◌∙◌, arith}
-use Rattle.sweeper.specs.Whole.{sizes_of}
+use Rattle.entry_word.specs.Image.{sizes_of}
 use Rattle.sweeper.proofs.UsedIndexes.{IsUsageOf, IsUsageOf-outside}
 use Rattle.sweeper.proofs.usage.area_start.Goals as goal
 
