@@ -9,9 +9,10 @@ use Rattle.plain_table.specs.Table.{Table, Sizes, limit_of}
 use Rattle.plain_table.specs.Finish.{started, area_of}
 use Rattle.plain_table.specs.Words.{object_word, phase_word, header_word, header_place, field_place, entry_place}
 use Rattle.plain_table.specs.Sound.{IsSound}
-use Rattle.plain_table.specs.Shows.{Image, PendingCell, Shows, SpaceShows, IsShaded, IsScanned, IsCovered, IsHeader}
+use Rattle.plain_table.specs.Shows.{Image, PendingCell, Shows, SpaceShows, IsShaded, IsScanned, IsCovered, IsHeader, ImageShows}
 use Rattle.plain_table.proofs.WordPlaces.{field_place-below, field_place-from, header-apart-field}
 use Rattle.sweeper.specs.Small.{AreSmall}
+use Rattle.sweeper.specs.Late.{AreOwed}
 use Rattle.sweeper.specs.Begin.{first_header, without_bit, IsOpened}
 use Rattle.sweeper.specs.Roots.{is_held, AreHeld}
 use Rattle.std.specs.List.{Contains}
@@ -149,21 +150,48 @@ module _ (s : Table) (h : IsSound s) (none : s.cycle ≡ None) (small : AreSmall
     old-root o (inl r) = By_global r.0 o r.1
     old-root o (inr r) = By_variable r.0 r.1 o r.2
 
-    pub IsCovered-started : IsCovered now (started s policy)
-    IsCovered-started = record {
-      references = λ o k q few scanned there. absurd (not-scanned o (h.objects.references o k q there).0 scanned);
-      owed = λ o few shaded not_scanned. old-root o (root-held o (by o few shaded not_scanned (cases_Bool (nat_le s.count o)) (is_held held o) refl));
-    }
+    -- a shaded object that is not scanned is a root
+    held-of : (o : ℕ) → o < s.sizes.objects → IsShaded now o → (IsScanned now o → ⊥) → IsTrue (is_held held o)
+    held-of o few shaded not_scanned = by (cases_Bool (nat_le s.count o)) (is_held held o) refl
       where
-        by : (o : ℕ) → o < s.sizes.objects → IsShaded now o → (IsScanned now o → ⊥) → (nat_le s.count o ≡ true) ⊎ (nat_le s.count o ≡ false) →
-            (b : Bool) → is_held held o ≡ b → IsTrue (is_held held o)
-        by o few shaded not_scanned made true is = is
-        by o few shaded not_scanned (inl unmade) false is =
+        by : (nat_le s.count o ≡ true) ⊎ (nat_le s.count o ≡ false) → (b : Bool) → is_held held o ≡ b → IsTrue (is_held held o)
+        by made true is = is
+        by (inl unmade) false is =
             absurd (not_scanned (ap (λ w. w / 2 % 2) (header-is o few ∙ cond-true (nat_le s.count o) 3 (if is_held held o then 1 else 0) unmade)))
-        by o few shaded not_scanned (inr made) false is =
+        by (inr made) false is =
             let white : slice_index now (header_place o) ≡ 0 = header-is o few ∙ cond-false (nat_le s.count o) 3 (if is_held held o then 1 else 0) made ∙ ap (λ (b : Bool). if b then 1 else 0) is in
             let bad : 0 ≡ 1 = ap (λ w. w % 2) (sym white) ∙ shaded in
             absurd (omega (arith, bad))
+
+    pub IsCovered-started : IsCovered now (started s policy)
+    IsCovered-started = record {
+      references = λ o k q few scanned there. absurd (not-scanned o (h.objects.references o k q there).0 scanned);
+      owed = λ o few shaded not_scanned. old-root o (root-held o (held-of o few shaded not_scanned));
+    }
+
+    -- the listed roots are owed
+    pub AreOwed-started : (roots : List ℕ) → roots ≡ members_below (is_held held) (length held) → AreOwed now roots
+    AreOwed-started roots lists = record {
+      listed = λ o made shaded not_scanned.
+          let few : o < s.sizes.objects = omega (arith, made, count-now, h.objects.few) in
+          subst (λ (xs : List ℕ). Contains xs o) (sym lists) (member-of (is_held held) (length held) o (omega (arith, few, long)) (held-of o few shaded not_scanned));
+      owed = λ o there.
+          let is = member-if (is_held held) (length held) o (subst (λ (xs : List ℕ). Contains xs o) lists there) in
+          let root = root-held o is.1 in
+          let made = root-made o root in
+          (omega (arith, made, count-now), shaded-root o root, not-scanned o made);
+      differ = λ i j order less e.
+          let up = members-ascend (is_held held) (length held) i j order (subst (λ (xs : List ℕ). j < length xs) lists less) in
+          let same = ap (λ (xs : List ℕ). slice_index xs i) (sym lists) ∙ e ∙ ap (λ (xs : List ℕ). slice_index xs j) lists in
+          omega (arith, up, same);
+    }
+      where
+        count-now : slice_index now 3 ≡ s.count
+        count-now = early 3 (omega arith) (λ e. omega (arith, e)) (λ e. omega (arith, e)) ∙ shows.count
+
+        root-made : (o : ℕ) → IsRoot s.globals s.vars o → o < s.count
+        root-made o (inl r) = (h.objects.roots r.0 o r.1).1
+        root-made o (inr r) = (h.objects.variables r.0 r.1 o r.2).2
 
 -- an image whose words are those of the start of a cycle
 module _ (shape : Shape) (words opened vars : List ℕ) (pending : List (Option PendingCell)) (held : List Bool) (policy : Policy) (area : Area)
@@ -215,3 +243,16 @@ cycle-none words s shows zero = by s.cycle refl
     by : (cycle : Option Cycle) → s.cycle ≡ cycle → s.cycle ≡ None
     by None is = is
     by (Some c) is = let bad : 0 ≡ 1 = sym zero ∙ shows.phase ∙ ap phase_word is in absurd (omega (arith, bad))
+
+-- the same of an image: its listed roots are owed
+pub AreOwed-begun : (shape : Shape) (words opened vars : List ℕ) (pending : List (Option PendingCell)) (held : List Bool) (policy : Policy) (area : Area) → IsSmallShape shape →
+    AreHeld held words vars shape.objects → area.roots.items ≡ members_below (is_held held) (length held) → DecidesArea words (sizes_of shape) policy area.start →
+    IsOpened words opened held (shape.seg * shape.ext + shape.seg * shape.tru) area.start → (s : Table) → IsSound s → s.cycle ≡ None →
+    ImageShows (record { sizes = sizes_of shape; words = words; variables = vars; pending = pending }) s → AreOwed opened area.roots.items
+AreOwed-begun shape words opened vars pending held policy area small are lists decides opens s h none shows =
+    let few = AreSmall-shape shape s small shows.sizes in
+    let long : length held ≡ s.sizes.objects = are.long ∙ ap (λ (z : Sizes). z.objects) (sym shows.sizes) in
+    let begins : area.start ≡ area_of s policy = decides s (record { sound = h; none = none; small = few; same = shows.sizes; shows = shows.words }) in
+    let opened_is = subst (λ (z : Sizes). IsOpened words opened held (z.seg * z.ext + z.seg * z.tru) area.start) (sym shows.sizes) opens in
+    let are_held = subst (λ (z : Sizes). AreHeld held words vars z.objects) (sym shows.sizes) are in
+    AreOwed-started s h none few policy words opened held area.start shows.words long begins opened_is vars shows.variables.0 shows.variables.1 are_held area.roots.items lists

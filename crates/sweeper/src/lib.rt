@@ -1,9 +1,9 @@
-//! The finish of a collection cycle on an image: the sweep of both spaces of a table, on its machine words.
+//! The sweeper: the start of a collection cycle, what is still to be marked at its end, and its finish, on an image.
 //!
-//! `sweep` (`images.rt`) leaves an image that shows the table after the finish, for each table that the image showed, with
-//! the report of that finish. The moves of the evacuation area stand in `moves.rt`, the last pass over the entries of a
-//! space in `pass.rt`, and both spaces, headers and the words of the cycle in `sweeps.rt`. In `specs/`, `Ready.antt` says
-//! what the entries of a space have to hold before their last pass.
+//! `begin` (`begins.rt`, `usage.rt`, `roots.rt`), `late_mark` (`late.rt`, `marking.rt`, `shading.rt`, `evacuation.rt`) and
+//! `sweep` (`images.rt`, `sweeps.rt`, `moves.rt`, `pass.rt`) each leave an image that shows the table after the start, the
+//! pause and the finish, for every sound table that the image showed; `specs/Begin.antt`, `specs/Late.antt` and
+//! `specs/Images.antt` say so. `area.rt` has what a cycle keeps from its start to its finish.
 #![tactic(auto)]
 
 mod area;

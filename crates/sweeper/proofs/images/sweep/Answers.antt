@@ -113,3 +113,11 @@ returns-clause-lawful c =
     let cycle = cycle-some c.args.image.now.words.items s lawful.2.words c.requires.cycle in
     let swept = returns-clause-tables c s cycle.0 lawful.1 cycle.1 lawful.2 lawful.3 in
     (finished s cycle.0, IsSound-finish s cycle.0 lawful.1 cycle.1 swept.may, swept.shows, tt)
+
+pub returns-clause-outside : goal.returns-clause-outside
+returns-clause-outside c =
+    let lawful = c.requires.lawful in
+    let s = lawful.0 in
+    let cycle = cycle-some c.args.image.now.words.items s lawful.2.words c.requires.cycle in
+    let swept = returns-clause-tables c s cycle.0 lawful.1 cycle.1 lawful.2 lawful.3 in
+    swept.shows.words.phase
