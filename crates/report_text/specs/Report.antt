@@ -1,8 +1,8 @@
 -- The report of a run, as it is printed: each reply on a line of its own behind the mutator's number, and the line of
 -- each meet; and the text of a refused script.
-use Rattle.std.specs.Prelude.{ℕ, zero, suc, false, ◌+◌, ◌/◌, ◌%◌, List, [], ◌∷◌, ◌++◌, Option, Some, None, codes}
+use Rattle.std.specs.Prelude.{ℕ, ◌+◌, List, [], ◌∷◌, ◌++◌, Option, Some, None, codes}
 use Rattle.std.specs.List.{concat, flat_map}
-use Rattle.std.specs.Fmt.{decimal, digit_glyph}
+use Rattle.std.specs.Fmt.{decimal}
 use Rattle.script_reader.specs.Canonical.{hex}
 use Rattle.plain_table.specs.declared.reports.Reply.{Reply}
 use Rattle.plain_table.specs.declared.reports.Reply.TheVariants as reply
