@@ -7,8 +7,8 @@ mod refusals;
 use self::histories::LEGAL;
 use self::made::{append, events_of};
 use self::refusals::REFUSALS;
-use plain_program::{State, area_start, replay, step};
-use plain_table::{Act, Event, Field, Limits, Policy, Reply, Space};
+use plain_program::{State, replay, step};
+use plain_table::{Act, Event, Field, Limits, Reply, Space};
 use std::alloc::Global;
 use std::process::Abort;
 use std::test::Fail;
@@ -137,6 +137,21 @@ fn a_legal_history_is_made(rt: HostRuntime) -> Result<(), Fail> {
 }
 
 #[test]
+fn a_long_history_is_replayed(rt: HostRuntime) -> Result<(), Fail> {
+    let mut events = Vec::new(rt.alloc());
+    for event in history() {
+        events.push(event)?;
+    }
+    for _ in 0..20_000 {
+        events.push(look(0x0001_0000, 0x0f, Reply::Value(0xc2)))?;
+    }
+    assert!(rt; replay(rt.alloc(), LIMITS, &events)?);
+    events.push(look(0x0001_0000, 0x0f, Reply::Value(0xc1)))?;
+    assert!(rt; !replay(rt.alloc(), LIMITS, &events)?);
+    Ok(())
+}
+
+#[test]
 fn a_wrong_event_is_refused(rt: HostRuntime) -> Result<(), Fail> {
     for (before, event) in wrong() {
         let mut events = Vec::new(rt.alloc());
@@ -218,27 +233,6 @@ fn a_wrong_last_event_is_refused(rt: HostRuntime) -> Result<(), Fail> {
             }
             assert!(rt; !step(rt.alloc(), &mut state, &last)?, "{last:?}");
         }
-    }
-    Ok(())
-}
-
-#[test]
-fn an_area_is_half_of_what_is_free(rt: HostRuntime) -> Result<(), Fail> {
-    let areas = [
-        (Policy::Auto, 4, 32, 16, Some(48)),
-        (Policy::Auto, 4, 33, 16, None),
-        (Policy::Auto, 20, 72, 4, Some(76)),
-        (Policy::Auto, 21, 76, 4, None),
-        (Policy::Auto, 3, 1, 16, None),
-        (Policy::Always, 5, 3, 4, Some(12)),
-        (Policy::Always, 1, 1, 4, None),
-        (Policy::Never, 5, 3, 4, None),
-    ];
-    for (policy, segs, used, seg, start) in areas {
-        assert!(rt;
-            area_start(policy, segs, used, seg) == start,
-            "at {policy:?} of {segs}"
-        );
     }
     Ok(())
 }
