@@ -302,6 +302,14 @@ fn a_range_that_is_none_is_a_bad_tag(rt: HostRuntime) -> Result<(), Fail> {
 }
 
 #[test]
+fn check_prints_ranges_as_they_are(rt: HostRuntime) -> Result<(), Fail> {
+    let script =
+        "ept 2 seg=4 ext=1 tru=1 objects=1 mutators=1 markers=0\nm0 new a\nm0 init a 0 20 0000000000c0\nm0 load a 0 1f-21\nm0 load a 0 20\nm0 load a 0 21-ff\nm0 store a 0 01-ff 0000000000c1\nm0 raw 00010000 01-1f\nm0 load a 0 20\nm0 tnew a ff 0000000000d0\nm0 tpub a\nm0 tload a fe-ff\nend\n";
+    check(&rt, plain(&["check"]), &[script], Status::Ok, script)?;
+    check(&rt, plain(&["run"]), &[script], Status::NotBuilt, "")
+}
+
+#[test]
 fn upgrade_prints_the_script_in_version_two(rt: HostRuntime) -> Result<(), Fail> {
     for header in [ONE_OBJECT, VERSION_TWO] {
         check(
