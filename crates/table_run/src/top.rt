@@ -138,7 +138,6 @@ struct Answer {
 
 /// Reads the script of these bytes, and does what the form asks for. The statuses that no text stands behind are errors.
 fn answer_to(alloc: Global, form: Form, bytes: &[u8]) -> Result<Answer, Status>
-    requires { length bytes.now ≤ most_bytes }
     ensures text { IfOk result (λ answer. IsTextOf form bytes.now answer.status (string_bytes answer.text)) }
     ensures named { IfOk result (λ answer. answer.status ≢ Status.Refused ScriptErr.OutOfMemory) }
     ensures silent { IfErr result (λ status. (status ≡ Status.OutOfMemory) ⊎ IsUnbuilt form bytes.now status) }
