@@ -60,7 +60,6 @@ pub fn read_script<S: Source>(alloc: Global, src: &mut S, limit: usize) -> Resul
     let mut piece = [0u8; PIECE];
     loop {
         match src.read(&mut piece) {
-            Err(Failed) => return Err(ReadErr::ReadFault),
             Ok(0) => return Ok(bytes),
             Ok(n) if limit - bytes.len() < n => return Err(ReadErr::TooLong),
             Ok(n) => {
@@ -68,6 +67,7 @@ pub fn read_script<S: Source>(alloc: Global, src: &mut S, limit: usize) -> Resul
                     return Err(ReadErr::OutOfMemory);
                 }
             }
+            Err(Failed) => return Err(ReadErr::ReadFault),
         }
     }
 }
