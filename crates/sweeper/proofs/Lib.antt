@@ -33,3 +33,5 @@ pub mod NextFits
 pub mod LateSteps
 pub mod LateImages
 pub mod ValidShapes
+pub mod Masks
+pub mod Cleared

@@ -1,0 +1,90 @@
+// Kernels over the entry words of a segment, eight lanes at a time.
+ghost use Rattle.std.specs.Prelude.{◌≡◌, ℕ, ◌+◌, ◌<◌, ◌≤◌, ◌^◌, ◌-◌, if◌then◌else◌, map, length, slice_index};
+ghost use Rattle.std.specs.Simd.Lanes.{mask_l, chunk, put_chunk};
+ghost use Rattle.sweeper.specs.Bits.{bit, is_marked, is_moved, unmarked};
+
+use std::simd::prelude::*;
+
+const MARK: u64 = 1 << 62;
+
+/// Which of eight words are marked.
+fn marked_in(lanes: &[u64; 8]) -> u64
+    ensures { result ≡ mask_l (map is_marked lanes.now) }
+{
+    (u64x8::from_array(*lanes) & u64x8::splat(MARK))
+        .simd_ne(u64x8::splat(0))
+        .to_bitmask()
+}
+
+/// Which of eight words are evacuation entries.
+fn moved_in(lanes: &[u64; 8]) -> u64
+    ensures { result ≡ mask_l (map is_moved lanes.now) }
+{
+    (u64x8::from_array(*lanes) & u64x8::splat(1 << 58))
+        .simd_ne(u64x8::splat(0))
+        .to_bitmask()
+}
+
+/// Which of at most 64 words have bit 62.
+pub fn mark_mask(words: &[u64]) -> u64
+    requires { length words.now ≤ 64 }
+    ensures bits { (i : ℕ) → i < length words.now → bit result i ≡ bit (slice_index words.now i) 62 }
+    ensures past { result < 2 ^ length words.now }
+{
+    let (whole, rest) = words.as_chunks::<8>();
+    let mut mask = 0u64;
+    let mut at = 0u32;
+    for lanes in whole {
+        mask |= marked_in(lanes) << at;
+        at += 8;
+    }
+    for word in rest {
+        mask |= (*word >> 62 & 1) << at;
+        at += 1;
+    }
+    mask
+}
+
+/// Which of at most 64 words have bit 58, as evacuation entries do.
+pub fn evac_mask(words: &[u64]) -> u64
+    requires { length words.now ≤ 64 }
+    ensures bits { (i : ℕ) → i < length words.now → bit result i ≡ bit (slice_index words.now i) 58 }
+    ensures past { result < 2 ^ length words.now }
+{
+    let (whole, rest) = words.as_chunks::<8>();
+    let mut mask = 0u64;
+    let mut at = 0u32;
+    for lanes in whole {
+        mask |= moved_in(lanes) << at;
+        at += 8;
+    }
+    for word in rest {
+        mask |= (*word >> 58 & 1) << at;
+        at += 1;
+    }
+    mask
+}
+
+/// Clears bit 62 of eight words.
+fn clear_at(words: &mut [u64], at: usize)
+    requires { at + 8 ≤ length words.old }
+    ensures { words.new ≡ put_chunk at words.old (map unmarked (chunk at 8 words.old)) }
+{
+    let lanes = u64x8::from_slice(&words[at..]) & u64x8::splat(!MARK);
+    lanes.copy_to_slice(&mut words[at..]);
+}
+
+/// Clears bit 62 of each word, and nothing else.
+pub fn clear_marks(words: &mut [u64])
+    ensures { words.new ≡ map unmarked words.old }
+{
+    let mut at = 0;
+    while words.len() - at >= 8 {
+        clear_at(words, at);
+        at += 8;
+    }
+    while at < words.len() {
+        words[at] &= !MARK;
+        at += 1;
+    }
+}
