@@ -35,3 +35,4 @@ pub mod LateImages
 pub mod ValidShapes
 pub mod Masks
 pub mod Cleared
+pub mod CellMasks

@@ -1,5 +1,5 @@
 -- Single bits of words.
-use Rattle.std.specs.Prelude.{ℕ, Bool, ◌-◌, ◌/◌, ◌%◌, ◌^◌, ◌==◌, bit_and}
+use Rattle.std.specs.Prelude.{ℕ, Bool, ◌-◌, ◌/◌, ◌%◌, ◌^◌, ◌==◌, ◌&&◌, not, bit_and}
 
 -- whether bit k stands in n
 abbrev pub bit : ℕ → ℕ → Bool
@@ -11,6 +11,10 @@ is_marked w = bit w 62
 
 abbrev pub is_moved : ℕ → Bool
 is_moved w = bit w 58
+
+-- a cell has none of the bits 56, 57 and 58, and a tag in bits 48 to 55
+abbrev pub is_cell_bits : ℕ → Bool
+is_cell_bits w = bit_and w 504403158265495552 == 0 && not (bit_and w 71776119061217280 == 0)
 
 -- w with bit 62 cleared
 abbrev pub unmarked : ℕ → ℕ

@@ -24,5 +24,5 @@ mod usage;
 pub use area::Area;
 pub use begins::begin;
 pub use images::sweep;
-pub use lanes::{clear_marks, evac_mask, mark_mask};
+pub use lanes::{cell_mask, clear_marks, evac_mask, mark_mask};
 pub use late::late_mark;
