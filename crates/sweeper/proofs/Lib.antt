@@ -33,3 +33,6 @@ pub mod NextFits
 pub mod LateSteps
 pub mod LateImages
 pub mod ValidShapes
+pub mod Masks
+pub mod Cleared
+pub mod CellMasks

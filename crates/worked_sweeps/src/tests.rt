@@ -1,11 +1,11 @@
-// Whole cycles on images in which nothing was made.
+// Whole cycles on images in which nothing was made, and masks of words.
 ghost use Rattle.std.specs.Prelude.{◌≡◌};
 ghost use Rattle.entry_word.specs.Image.{IsValidShape};
 
 use entry_word::{Image, Shape};
 use plain_table::{Compaction, OutOfMemory, Policy, SweepReport};
 use std::alloc::Global;
-use sweeper::{begin, late_mark, sweep};
+use sweeper::{begin, cell_mask, clear_marks, evac_mask, late_mark, mark_mask, sweep};
 
 /// A cycle from its start to its sweep, on the image of a table before anything happened.
 fn cycle(
@@ -67,4 +67,29 @@ fn the_largest_spaces_are_swept(rt: HostRuntime) -> Result<(), OutOfMemory> {
     assert_eq!(rt; scans, 0);
     assert_eq!(rt; report, NOTHING);
     Ok(())
+}
+
+#[test]
+fn the_masks_of_five_words(rt: HostRuntime) {
+    let words = [
+        0,
+        0x400f_0000_0000_00c0,
+        0x0100_0000_0000_0002,
+        0x080f_0000_0000_00c0,
+        0x0400_0000_0000_0006,
+    ];
+    assert_eq!(rt; mark_mask(&words), 2);
+    assert_eq!(rt; cell_mask(&words), 10);
+    assert_eq!(rt; evac_mask(&words), 16);
+    assert_eq!(rt; mark_mask(&words[..0]), 0);
+}
+
+#[test]
+fn the_marks_of_a_whole_segment(rt: HostRuntime) {
+    let mut words = [0x400f_0000_0000_00c0; 64];
+    assert_eq!(rt; mark_mask(&words), u64::MAX);
+    assert_eq!(rt; cell_mask(&words), u64::MAX);
+    clear_marks(&mut words);
+    assert_eq!(rt; mark_mask(&words), 0);
+    assert_eq!(rt; words[63], 0x000f_0000_0000_00c0);
 }
