@@ -63,12 +63,14 @@ module _ (shape : Shape) (words vars : List ℕ) (pending : List (Option Pending
     cycle-late = e.run.shows.phase ∙ ap phase_word kept.is
 
   pub LateMarks-image : (now shaded : List ℕ) (n : ℕ) → IsLateFrom words now vars shaded (sizes_of shape) n → LateMarks (image words) (image now) shaded n
-  LateMarks-image now shaded n from s c linked h is shows covered handed =
-      let e = from s c linked (IsLateStart-image s c h is shows covered) handed.due in
+  LateMarks-image now shaded n from s c linked h is shows covered due =
+      let e = from s c linked (IsLateStart-image s c h is shows covered) due in
       record {
         events = e.events;
         legal = e.run.legal;
-        pause = record { own = e.run.own; scans = e.run.scans; complete = e.complete handed };
+        own = e.run.own;
+        scans = e.run.scans;
+        pause = λ handed. record { own = e.run.own; scans = e.run.scans; complete = e.complete handed };
         shows = ImageShows-late now shaded linked n s c h is shows e;
         covered = e.covered;
         counted = e.counted;

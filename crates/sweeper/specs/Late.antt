@@ -7,11 +7,11 @@ use Rattle.plain_table.specs.Cycle.{Cycle}
 use Rattle.plain_table.specs.Table.{Table, Sizes}
 use Rattle.plain_table.specs.Words.{count_place, object_word}
 use Rattle.plain_table.specs.Rows.{InCycle}
-use Rattle.plain_table.specs.Scans.{Rest}
+use Rattle.plain_table.specs.Scans.{IsReadAtMeet, Rest, Scans}
 use Rattle.plain_table.specs.History.{IsLegalHistory, after}
 use Rattle.plain_table.specs.Shows.{Image, ImageShows, IsShaded, IsScanned, IsCovered, IsCoveredIn}
 use Rattle.plain_table.specs.Sound.{IsSound}
-use Rattle.plain_table.specs.Sweeps.{IsDue, IsPause}
+use Rattle.plain_table.specs.Sweeps.{IsDue, IsPause, MayScanAtMeet, meeting}
 use Rattle.sweeper.specs.Pause.{IsRun, IsPauseAct, scans_in}
 use Rattle.sweeper.specs.Whole.{IsShown}
 
@@ -27,20 +27,24 @@ pub record AreHandedOver (words shaded linked : List ℕ) (s : Table) (c : Cycle
   pub roots : (o : ℕ) → IsRoot c.globals c.vars o → IsShaded words o
   pub links : (o : ℕ) → Contains linked o → (o < s.count) × IsShaded words o
 
--- the pause of a finish: whole scans of due objects, until nothing is owed
-pub record IsLateMarked (old now : Image) (linked : List ℕ) (scanned : ℕ) (s : Table) (c : Cycle) : Type 0 where
+-- whole scans by the meet's number, of due objects by the words that stand in fields; they are the pause of a finish,
+-- which leaves no due object out, where the roots of the cycle's start and the objects that were linked in it were shaded
+pub record IsLateMarked (old now : Image) (shaded linked : List ℕ) (scanned : ℕ) (s : Table) (c : Cycle) : Type 0 where
   pub events : List Event
   pub legal : IsLegalHistory s events
-  pub pause : IsPause linked s events
+  pub own : All (λ (e : Event). e.by ≡ meeting) events
+  pub scans : Scans (MayScanAtMeet linked) IsReadAtMeet meeting Rest s events Rest
+  pub pause : AreHandedOver old.words shaded linked s c → IsPause linked s events
   pub shows : ImageShows now (after s events)
   pub covered : IsCovered now.words (after s events)
   pub counted : scanned ≡ scans_in events
 
--- for each table in a cycle that the image showed and was covered in
+-- for each table in a cycle that the image showed and was covered in, and each list of linked objects by which the shaded
+-- ones are due: there is one for each table, since they are by that of the shaded ones themselves
 abbrev pub LateMarks : Image → Image → List ℕ → ℕ → Type 0
 LateMarks old now shaded scanned =
     (s : Table) (c : Cycle) (linked : List ℕ) → IsSound s → s.cycle ≡ Some c → ImageShows old s → IsCovered old.words s →
-    AreHandedOver old.words shaded linked s c → IsLateMarked old now linked scanned s c
+    ((o : ℕ) → Contains shaded o → IsDue s c linked o) → IsLateMarked old now shaded linked scanned s c
 
 -- the same of words and variables alone
 abbrev pub HoldVariables : List ℕ → Table → Type 0

@@ -49,8 +49,9 @@ fn mark_late(
 }
 
 /// Late marking at the meet that ends a cycle: each object of `shaded`, which lists once those that are shaded and not
-/// scanned, and all that these and the roots reach, is scanned; answers the number of scans. The scans are the pause of a
-/// finish (`IsPause` of the plain table), and nothing is owed after them.
+/// scanned, and all that these and the roots reach, is scanned; answers the number of scans (`LateMarks` of
+/// `specs/Late.antt`). The scans are the pause of a finish (`IsPause` of the plain table) where the roots of the cycle's start
+/// and the objects that were linked in it were shaded, and nothing is owed after them.
 pub fn late_mark(image: &mut Image, area: &mut Area, shaded: &[u32]) -> u32
     requires shape { IsValidShape image.old.shape }
     requires lawful { IsLawful (image_of image.old) }
