@@ -16,7 +16,8 @@ use Rattle.plain_table.specs.Shows.{SpaceShows, entry_at, IsEmptyIndex}
 use Rattle.plain_table.proofs.Options.{IsSome-value}
 use Rattle.plain_table.proofs.AreaStarts.{greatest_below-is, greatest_below-some}
 use Rattle.plain_table.proofs.FreeLists.{least_from-same, count_below-same}
-use Rattle.sweeper.specs.Pass.{is_marked_word, Tally, stays, used_after, free_after, entries_from}
+use Rattle.word_laws.specs.Kinds.{is_marked_word}
+use Rattle.sweeper.specs.Pass.{Tally, stays, used_after, free_after, entries_from}
 use Rattle.sweeper.specs.Ready.{IsReady, IsSpaceAfter}
 
 pub greatest_below-same : (set other : ℕ → Bool) (n : ℕ) → ((k : ℕ) → other k ≡ set k) → greatest_below other n ≡ greatest_below set n

@@ -13,7 +13,8 @@ use Rattle.plain_table.specs.Shows.{Image, PendingCell, Shows, SpaceShows, IsSha
 use Rattle.plain_table.proofs.WordPlaces.{field_place-below, field_place-from, header-apart-field}
 use Rattle.sweeper.specs.Small.{AreSmall}
 use Rattle.sweeper.specs.Late.{AreOwed}
-use Rattle.sweeper.specs.Begin.{first_header, without_bit, IsOpened}
+use Rattle.sweeper.specs.Begin.{first_header, IsOpened}
+use Rattle.sweeper.specs.Bits.{without_mark}
 use Rattle.sweeper.specs.Roots.{is_held, AreHeld}
 use Rattle.std.specs.List.{Contains}
 use Rattle.plain_table.specs.Cycle.{Cycle}
@@ -64,16 +65,16 @@ module _ (s : Table) (h : IsSound s) (none : s.cycle ≡ None) (small : AreSmall
       white true = refl
       white false = refl
 
-  entries : (k : ℕ) → k < limit_of s External + limit_of s Trusted → slice_index now (32 + 8 * s.sizes.objects + k) ≡ without_bit (slice_index old (32 + 8 * s.sizes.objects + k))
-  entries k less = subst (λ n. slice_index now (32 + 8 * n + k) ≡ without_bit (slice_index old (32 + 8 * n + k))) long (opened.entries k less)
+  entries : (k : ℕ) → k < limit_of s External + limit_of s Trusted → slice_index now (32 + 8 * s.sizes.objects + k) ≡ without_mark (slice_index old (32 + 8 * s.sizes.objects + k))
+  entries k less = subst (λ n. slice_index now (32 + 8 * n + k) ≡ without_mark (slice_index old (32 + 8 * n + k))) long (opened.entries k less)
 
-  external-entries : (k : ℕ) → k < limit_of s External → slice_index now (entry_place s.sizes External k) ≡ without_bit (slice_index old (entry_place s.sizes External k))
+  external-entries : (k : ℕ) → k < limit_of s External → slice_index now (entry_place s.sizes External k) ≡ without_mark (slice_index old (entry_place s.sizes External k))
   external-entries k less = entries k (omega (arith, less))
 
-  trusted-entries : (k : ℕ) → k < limit_of s Trusted → slice_index now (entry_place s.sizes Trusted k) ≡ without_bit (slice_index old (entry_place s.sizes Trusted k))
+  trusted-entries : (k : ℕ) → k < limit_of s Trusted → slice_index now (entry_place s.sizes Trusted k) ≡ without_mark (slice_index old (entry_place s.sizes Trusted k))
   trusted-entries k less =
       let same : 32 + 8 * s.sizes.objects + (s.sizes.seg * s.sizes.ext + k) ≡ entry_place s.sizes Trusted k = omega arith in
-      subst (λ place. slice_index now place ≡ without_bit (slice_index old place)) same (entries (s.sizes.seg * s.sizes.ext + k) (omega (arith, less)))
+      subst (λ place. slice_index now place ≡ without_mark (slice_index old place)) same (entries (s.sizes.seg * s.sizes.ext + k) (omega (arith, less)))
 
   pub Shows-started : Shows now (started s policy)
   Shows-started = record {

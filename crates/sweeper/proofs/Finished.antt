@@ -20,13 +20,14 @@ use Rattle.plain_table.specs.Sweeps.{cells_in, IsSweep, compaction_by}
 use Rattle.plain_table.proofs.WordPlaces.{field_place-below, field_place-from, header-apart-field}
 use Rattle.plain_table.proofs.FreeLists.{count_below-same}
 use Rattle.sweeper.specs.Small.{AreSmall}
-use Rattle.sweeper.specs.Pass.{Tally, is_marked_word, is_cell_word, stays, freed_after, used_after, entries_from, one_if}
+use Rattle.word_laws.specs.Kinds.{is_marked_word, is_cell_word}
+use Rattle.sweeper.specs.Pass.{Tally, stays, freed_after, used_after, entries_from, one_if}
 use Rattle.sweeper.specs.Ready.{IsReady, IsSpaceAfter, IsSpaceSwept}
 use Rattle.sweeper.specs.Moves.{external_base}
 use Rattle.sweeper.specs.Whole.{IsResolved, IsTidied}
 use Rattle.sweeper.proofs.AfterPass.{SpaceShows-swept, stays-swept, used-swept, greatest_below-same}
 use Rattle.sweeper.proofs.SpaceSweeps.{IsSpaceAfter-kept}
-use Rattle.sweeper.proofs.EntryKinds.{cell-kind-at, no_cell-kind-at}
+use Rattle.word_laws.proofs.EntryKinds.{cell-kind-at, no_cell-kind-at}
 use Rattle.sweeper.proofs.Still.{IsReady-still}
 
 -- readiness reads the words below `from` alone

@@ -1,9 +1,7 @@
 pub mod Counts
 pub mod PassSteps
-pub mod WordKinds
 pub mod SpaceSweeps
 pub mod AfterPass
-pub mod EntryKinds
 pub mod Still
 pub mod MoveSteps
 pub mod Moved

@@ -23,18 +23,18 @@ use Rattle.plain_table.specs.Scans.{NeedNotMove, IsInArea}
 use Rattle.plain_table.specs.Shows.{Shows}
 use Rattle.plain_table.specs.Sound.{IsSound}
 use Rattle.plain_table.specs.Sweeps.{meeting}
-use Rattle.plain_table.proofs.FreeReads.{least_free-some}
+use Rattle.plain_table.proofs.FreeReads.{least_free-some, next_free-le}
 use Rattle.plain_table.proofs.Options.{IsSomeAnd-by}
 use Rattle.plain_table.proofs.PlaceReads.{put_at-same}
 use Rattle.word_laws.specs.WordLaws.{FreelistTells}
+use Rattle.word_laws.proofs.EntryKinds.{cell-kind-at, no_cell-kind-at}
 use Rattle.word_laws.proofs.FreelistReads.{FreelistsTell-shown}
+use Rattle.word_laws.specs.Kinds.{is_cell_word}
 use Rattle.sweeper.specs.Moves.{external_base}
-use Rattle.sweeper.specs.Pass.{is_cell_word}
 use Rattle.sweeper.specs.Pause.{IsVisitAct}
 use Rattle.sweeper.specs.Small.{AreSmall}
 use Rattle.sweeper.specs.Visits.{entered, entry_taken, moved_by, moved_out}
 use Rattle.sweeper.specs.Whole.{IsShown}
-use Rattle.sweeper.proofs.EntryKinds.{cell-kind-at, no_cell-kind-at, next_free-le}
 use Rattle.sweeper.proofs.NoRoom.{full-is}
 use Rattle.sweeper.proofs.PauseMoves.{evacuate-runs, abort-runs, after_first, after_below}
 use Rattle.sweeper.proofs.Resolved.{moving-is}
@@ -152,7 +152,7 @@ module _ (linked : List ℕ) (s : Table) (c : Cycle) (h : IsSound s) (is : s.cyc
           link : slice_index words (external_base s + head) ≡ free_word (slice_index words (external_base s + head) % 2 ^ 32)
           link =
               let word : entry head ≡ free_word (next_free (s.used External) (head + 1) tells.0) = tells.1.links head (omega (arith, free.1)) found.1 free.0 in
-              let most : next_free (s.used External) (head + 1) tells.0 ≤ tells.0 = next_free-le (s.used External) (head + 1) tells.0 (omega (arith, found.1)) in
+              let most : next_free (s.used External) (head + 1) tells.0 ≤ tells.0 = next_free-le (s.used External) (head + 1) tells.0 in
               omega (arith, word, most, tells.1.within, few)
 
           entered-in : (d : Cycle) → (next (next s first) second).cycle ≡ Some d → IsTrue (d.visited number)

@@ -24,11 +24,12 @@ use Rattle.plain_table.proofs.FreeLists.{count_below-same, count_below-less}
 use Rattle.table_laws.proofs.FinishMoves.{target-is, target-some}
 use Rattle.sweeper.specs.declared.moves.Plan.{Plan}
 use Rattle.sweeper.specs.declared.moves.Plan.TheVariants.{Skip, Move, Follow}
-use Rattle.sweeper.specs.Pass.{is_marked_word, is_evacuation_word, is_cell_word}
+use Rattle.word_laws.specs.Kinds.{is_marked_word, is_evacuation_word, is_cell_word}
 use Rattle.sweeper.specs.Moves.{is_forwarding_word, field_named, plan_by, plan_at, plan_of, applied, external_base, IsMovedAt}
-use Rattle.sweeper.proofs.WordKinds.{IsKind, evacuation-kind}
+use Rattle.word_laws.specs.Kinds.{IsKind}
+use Rattle.word_laws.proofs.WordKinds.{evacuation-kind}
 use Rattle.sweeper.specs.Small.{AreSmall}
-use Rattle.sweeper.proofs.EntryKinds.{cell-kind-at, no_cell-kind-at}
+use Rattle.word_laws.proofs.EntryKinds.{cell-kind-at, no_cell-kind-at}
 use Rattle.sweeper.proofs.Still.{cell-below}
 
 -- a word that is no evacuation entry's forwards nothing

@@ -20,11 +20,12 @@ use Rattle.plain_table.proofs.Options.{IsSome-value, is_some-option_map}
 use Rattle.plain_table.proofs.CycleParts.{CycleSound-is}
 use Rattle.plain_table.proofs.AreaStarts.{greatest_below-some, greatest_below-lt}
 use Rattle.table_laws.proofs.FinishMoves.{swept-from, swept-place, place-is, place-outside, place-target, target-is}
-use Rattle.sweeper.specs.Pass.{stays, is_marked_word}
+use Rattle.word_laws.specs.Kinds.{is_marked_word}
+use Rattle.sweeper.specs.Pass.{stays}
 use Rattle.sweeper.specs.Ready.{IsReady}
 use Rattle.sweeper.specs.Moves.{external_base, IsMovedAt}
 use Rattle.sweeper.specs.Small.{AreSmall}
-use Rattle.sweeper.proofs.EntryKinds.{cell-at, cell-kind-at, no_cell-kind-at}
+use Rattle.word_laws.proofs.EntryKinds.{cell-at, cell-kind-at, no_cell-kind-at}
 use Rattle.sweeper.proofs.MoveSteps.{target-start, moves_from-start}
 
 none-some_true : (o : Option ℕ) → IsTrue (is_some o) → o ≡ None → ⊥

@@ -7,7 +7,8 @@ use Rattle.plain_table.specs.Area.{count_below}
 use Rattle.plain_table.specs.Table.{least_from}
 use Rattle.plain_table.specs.Words.{free_word, no_access_word, next_free}
 use Rattle.plain_table.proofs.LeastFree.{least_from-used, least_from-free, least_from-end}
-use Rattle.sweeper.specs.Pass.{is_marked_word, is_cell_word, stays, used_after, free_after, freed_after, moved_after, word_after, entries_from, IsPassAt, IsTallyAt, IsCounted, IsCountedIn, IsFew, Tally, one_if}
+use Rattle.word_laws.specs.Kinds.{is_marked_word, is_cell_word}
+use Rattle.sweeper.specs.Pass.{stays, used_after, free_after, freed_after, moved_after, word_after, entries_from, IsPassAt, IsTallyAt, IsCounted, IsCountedIn, IsFew, Tally, one_if}
 use Rattle.sweeper.proofs.Counts.{IsCounted-step}
 
 -- the word that is written, by the word that stands there and the head of the list after it

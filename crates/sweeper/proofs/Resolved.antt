@@ -21,11 +21,12 @@ use Rattle.plain_table.proofs.Options.{IsSomeAnd-is}
 use Rattle.plain_table.proofs.CycleParts.{CycleSound-is}
 use Rattle.plain_table.proofs.FreeLists.{count_below-same}
 use Rattle.table_laws.proofs.FinishMoves.{target-outside}
-use Rattle.sweeper.specs.Pass.{is_evacuation_word, is_cell_word, moved_after, entries_from}
+use Rattle.word_laws.specs.Kinds.{is_evacuation_word, is_cell_word}
+use Rattle.sweeper.specs.Pass.{moved_after, entries_from}
 use Rattle.sweeper.specs.Moves.{external_base, IsMovedAt, IsMoving}
 use Rattle.sweeper.specs.Whole.{IsShown, IsResolved, moving_of, compaction_of}
-use Rattle.sweeper.proofs.WordKinds.{evacuation-kind}
-use Rattle.sweeper.proofs.EntryKinds.{cell-kind-at, no_cell-kind-at}
+use Rattle.word_laws.proofs.WordKinds.{evacuation-kind}
+use Rattle.word_laws.proofs.EntryKinds.{cell-kind-at, no_cell-kind-at}
 use Rattle.sweeper.proofs.Still.{IsReady-still}
 use Rattle.sweeper.proofs.MoveSteps.{target-start, moves_from-start}
 use Rattle.sweeper.proofs.Moved.{start-below, start-within, target-later, IsReady-moved, fields-moved}

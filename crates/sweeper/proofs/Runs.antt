@@ -30,10 +30,10 @@ use Rattle.plain_table.proofs.CallsMade.{after-append, IsLegalHistory-append}
 use Rattle.word_laws.proofs.CellWords.{CellWordsFollow-row}
 use Rattle.plain_table.proofs.CycleParts.{CycleSound-is}
 use Rattle.sweeper.specs.Small.{AreSmall}
-use Rattle.sweeper.specs.Pass.{is_marked_word, is_cell_word}
+use Rattle.word_laws.specs.Kinds.{is_marked_word, is_cell_word}
 use Rattle.sweeper.specs.Pause.{IsRun, base_of, with_bit, marked_after}
-use Rattle.sweeper.proofs.WordKinds.{cell-kind}
-use Rattle.sweeper.proofs.EntryKinds.{cell-good, cell-at, cell-kind-at, no_cell-kind-at}
+use Rattle.word_laws.proofs.WordKinds.{cell-kind}
+use Rattle.word_laws.proofs.EntryKinds.{cell-at, cell-kind-at, no_cell-kind-at}
 use Rattle.plain_table.proofs.PlaceReads.{put_entry-same}
 use Rattle.std.proofs.lemmas.Option.{same_Some}
 use Rattle.sweeper.specs.Pause.{IsVisitAct}
@@ -153,4 +153,4 @@ module _ (linked : List ℕ) (s : Table) (c : Cycle) (h : IsSound s) (is : s.cyc
               let word = cell-at s c h is small p (entry p) (space p).0 (space p).1 (space p).2 i cell stands in
               cond-true (nat_lt i (limit_of s p) && is_cell_word (entry p i)) (slice_set words (base_of s p + i) (with_bit (entry p i))) words
               (and_from (nat_lt i (limit_of s p)) (is_cell_word (entry p i)) (lt-ltb i (limit_of s p) (cell-below s c h is small p i cell stands)) kind.is_cell)
-              ∙ ap₂ (slice_set words) (sym (place_same p i)) (ap with_bit word ∙ with_bit-cell cell (c.marks p i) (cell-kind cell (c.marks p i) (cell-good s c h is small p i cell stands)).is_marked)
+              ∙ ap₂ (slice_set words) (sym (place_same p i)) (ap with_bit word ∙ with_bit-cell cell (c.marks p i) (cell-kind cell (c.marks p i) (h.cells.tags p i cell stands)).is_marked)

@@ -6,9 +6,11 @@ use Rattle.plain_table.specs.Area.{count_below, greatest_below, segments_in_use}
 use Rattle.plain_table.specs.Words.{freelist_word}
 use Rattle.plain_table.proofs.AreaStarts.{greatest_below-some, greatest_below-lt, segments-le}
 use Rattle.plain_table.proofs.Options.{IsSome-value}
-use Rattle.sweeper.specs.Pass.{is_marked_word, is_cell_word, is_evacuation_word, Tally, stays, used_after, free_after, freed_after, moved_after, entries_from, greatest_after, IsPassAt, IsTallyAt, one_if}
+use Rattle.word_laws.specs.Kinds.{is_marked_word, is_cell_word, is_evacuation_word}
+use Rattle.sweeper.specs.Pass.{Tally, stays, used_after, free_after, freed_after, moved_after, entries_from, greatest_after, IsPassAt, IsTallyAt, one_if}
 use Rattle.sweeper.specs.Ready.{IsSpaceAfter, IsSpaceSwept}
-use Rattle.sweeper.proofs.WordKinds.{IsKind, quiet-kind}
+use Rattle.word_laws.specs.Kinds.{IsKind}
+use Rattle.word_laws.proofs.WordKinds.{quiet-kind}
 
 module _ (entry : ℕ → ℕ) (from limit : ℕ) (some : 1 ≤ limit) where
   pub greatest_after-is : (g : ℕ) × (greatest_below (used_after entry from) limit ≡ Some g) × (greatest_after entry from limit ≡ g)

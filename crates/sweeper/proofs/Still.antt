@@ -15,10 +15,11 @@ use Rattle.plain_table.specs.Words.{cell_word}
 use Rattle.plain_table.specs.Shows.{SpaceShows}
 use Rattle.plain_table.specs.Sound.{IsSound}
 use Rattle.table_laws.proofs.FinishMoves.{swept-from, swept-place, place-is, place-outside, target-is}
-use Rattle.sweeper.specs.Pass.{stays, is_marked_word}
+use Rattle.word_laws.specs.Kinds.{is_marked_word}
+use Rattle.sweeper.specs.Pass.{stays}
 use Rattle.sweeper.specs.Ready.{IsReady}
 use Rattle.sweeper.specs.Small.{AreSmall}
-use Rattle.sweeper.proofs.EntryKinds.{cell-at, cell-kind-at, no_cell-kind-at}
+use Rattle.word_laws.proofs.EntryKinds.{cell-at, cell-kind-at, no_cell-kind-at}
 
 module _ (s : Table) (c : Cycle) (h : IsSound s) (is : s.cycle ≡ Some c) (small : AreSmall s) (p : Space) where
   pub cell-below : (i : ℕ) (cell : Cell) → s.cells p i ≡ Some cell → i < limit_of s p

@@ -15,8 +15,8 @@ use Rattle.plain_table.specs.declared.events.Cell.{Cell}
 use Rattle.plain_table.specs.declared.events.Space.TheVariants.{External, Trusted}
 use Rattle.table_laws.proofs.FinishMoves.{swept-place, swept-from, place-is}
 use Rattle.sweeper.specs.Small.{AreSmall}
-use Rattle.sweeper.specs.Pass.{is_marked_word}
-use Rattle.sweeper.proofs.EntryKinds.{cell-kind-at}
+use Rattle.word_laws.specs.Kinds.{is_marked_word}
+use Rattle.word_laws.proofs.EntryKinds.{cell-kind-at}
 use Rattle.sweeper.proofs.Still.{cell-below}
 use Rattle.entry_word.specs.declared.image.Shape.{Shape}
 use Rattle.entry_word.specs.Image.{sizes_of}

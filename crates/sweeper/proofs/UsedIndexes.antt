@@ -17,12 +17,14 @@ use Rattle.plain_table.proofs.AreaStarts.{count_below-le, greatest_below-some, g
 use Rattle.plain_table.proofs.FreeLists.{count_below-some}
 use Rattle.plain_table.proofs.Options.{IsSome-value}
 use Rattle.plain_table.proofs.LeastFree.{least_from-used, least_from-free, least_from-end}
-use Rattle.sweeper.specs.Pass.{is_cell_word, entries_from}
+use Rattle.word_laws.specs.Kinds.{is_cell_word}
+use Rattle.sweeper.specs.Pass.{entries_from}
 use Rattle.sweeper.specs.Small.{AreSmall}
 use Rattle.sweeper.specs.Usage.{counted, usage_of, IsOutside}
 use Rattle.sweeper.specs.declared.usage.Usage.{Usage}
-use Rattle.sweeper.proofs.EntryKinds.{next_free-le, next_free-ge}
-use Rattle.sweeper.proofs.WordKinds.{cell-kind, IsKind}
+use Rattle.plain_table.proofs.FreeReads.{next_free-le, next_free-ge}
+use Rattle.word_laws.specs.Kinds.{IsKind}
+use Rattle.word_laws.proofs.WordKinds.{cell-kind}
 
 -- the counts after n indexes
 pub record IsUsage (used : ℕ → Bool) (committed n : ℕ) (u : Usage) : Type 0 where
@@ -92,7 +94,7 @@ module _ (used : ℕ → Bool) (committed n : ℕ) (u : Usage) (word : ℕ) (zer
       ]
 
       most : next_free used (n + 1) committed ≤ committed
-      most = next_free-le used (n + 1) committed (omega (arith, below))
+      most = next_free-le used (n + 1) committed
 
       link : word % 2 ^ 32 ≡ next_free used (n + 1) committed
       link = omega (arith, links, most, few)
@@ -153,7 +155,7 @@ module _ (s : Table) (h : IsSound s) (none : s.cycle ≡ None) (small : AreSmall
 
   head-is : freelist % 2 ^ 32 ≡ next_free (s.used p) 1 committed
   head-is =
-      let most : next_free (s.used p) 1 committed ≤ committed = next_free-le (s.used p) 1 committed committed-some in
+      let most : next_free (s.used p) 1 committed ≤ committed = next_free-le (s.used p) 1 committed in
       omega (arith, shows.list, most, committed-few)
 
   pub IsUsage-shown : (n : ℕ) → n ≤ limit_of s p → IsUsage (s.used p) committed n (usage_of entry (freelist % 2 ^ 32) n)

@@ -1,5 +1,5 @@
 -- The start of a cycle on an image.
-use Rattle.std.specs.Prelude.{◌≡◌, ◌≢◌, ◌⊎◌, ◌↔◌, ℕ, ◌+◌, ◌-◌, ◌^◌, ◌<◌, ◌≤◌, nat_le, Bool, if◌then◌else◌, List, length, slice_index, Option, None, unwrap_or}
+use Rattle.std.specs.Prelude.{◌≡◌, ◌≢◌, ◌⊎◌, ◌↔◌, ℕ, ◌+◌, ◌<◌, ◌≤◌, nat_le, Bool, if◌then◌else◌, List, length, slice_index, Option, None, unwrap_or}
 use Rattle.std.specs.List.{Contains}
 use Rattle.plain_table.specs.declared.scripts.Policy.{Policy}
 use Rattle.plain_table.specs.Reachable.{IsRoot}
@@ -10,16 +10,12 @@ use Rattle.plain_table.specs.Shows.{Image, ImageShows, IsShaded, IsCovered}
 use Rattle.plain_table.specs.Words.{area_place, count_place, phase_place, header_place}
 use Rattle.sweeper.specs.declared.area.Area.{Area}
 use Rattle.sweeper.specs.Roots.{is_held}
-use Rattle.sweeper.specs.Pass.{is_marked_word}
-
--- a word without the marking bit
-abbrev pub without_bit : ℕ → ℕ
-without_bit word = if is_marked_word word then word - 2 ^ 62 else word
+use Rattle.sweeper.specs.Bits.{without_mark}
 
 -- the entries at `limit` places from `base` on have lost the marking bit
 pub record IsUnmarked (old now : List ℕ) (base limit : ℕ) : Type 0 where
   pub long : length now ≡ length old
-  pub entries : (k : ℕ) → k < limit → slice_index now (base + k) ≡ without_bit (slice_index old (base + k))
+  pub entries : (k : ℕ) → k < limit → slice_index now (base + k) ≡ without_mark (slice_index old (base + k))
   pub rest : (place : ℕ) → (place < base) ⊎ (base + limit ≤ place) → slice_index now place ≡ slice_index old place
 
 -- the header of an object at the start of a cycle
@@ -38,7 +34,7 @@ pub record IsOpened (old now : List ℕ) (held : List Bool) (many : ℕ) (start 
   pub area : slice_index now area_place ≡ unwrap_or start 0
   pub phase : slice_index now phase_place ≡ 1
   pub headers : (o : ℕ) → o < length held → slice_index now (header_place o) ≡ first_header (slice_index old count_place) (is_held held o) o
-  pub entries : (k : ℕ) → k < many → slice_index now (header_place (length held) + k) ≡ without_bit (slice_index old (header_place (length held) + k))
+  pub entries : (k : ℕ) → k < many → slice_index now (header_place (length held) + k) ≡ without_mark (slice_index old (header_place (length held) + k))
   pub rest : (place : ℕ) → place < header_place (length held) → place ≢ area_place → place ≢ phase_place →
       ((o : ℕ) → o < length held → place ≢ header_place o) → slice_index now place ≡ slice_index old place
 

@@ -16,6 +16,6 @@ is_moved w = bit w 58
 abbrev pub is_cell_bits : ℕ → Bool
 is_cell_bits w = bit_and w 504403158265495552 == 0 && not (bit_and w 71776119061217280 == 0)
 
--- w with bit 62 cleared
-abbrev pub unmarked : ℕ → ℕ
-unmarked w = bit_and w (2 ^ 64 - 1 - 2 ^ 62)
+-- a word without the marking bit
+abbrev pub without_mark : ℕ → ℕ
+without_mark w = bit_and w (2 ^ 64 - 1 - 2 ^ 62)

@@ -9,7 +9,7 @@ use Rattle.plain_table.specs.Sound.{IsSound}
 use Rattle.plain_table.specs.Shows.{Image, ImageShows, IsShaded, IsScanned, IsCovered}
 use Rattle.plain_table.specs.Sweeps.{IsSweep}
 use Rattle.entry_word.specs.declared.image.Pending as pendings
-use Rattle.sweeper.specs.Pass.{is_marked_word}
+use Rattle.word_laws.specs.Kinds.{is_marked_word}
 
 -- each made object that is shaded, or stands in a global or a variable, has its scanned bit
 pub record IsAllScanned (image : Image) : Type 0 where

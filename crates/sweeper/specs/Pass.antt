@@ -1,19 +1,10 @@
 -- The last pass of a sweep over the entry words of one space: marked entries below `from` stay, without the mark, and
--- all others become free ones of the ascending freelist, or have no access after the committed segments. It is tally
--- over words alone.
+-- all others become free ones of the ascending freelist, or have no access after the committed segments. It is said over
+-- words alone.
 use Rattle.std.specs.Prelude.{◌≡◌, ◌⊎◌, ℕ, ◌+◌, ◌-◌, ◌^◌, ◌<◌, ◌≤◌, ◌==◌, nat_le, nat_lt, Bool, not, ◌&&◌, ◌||◌, if◌then◌else◌, List, length, slice_index, unwrap_or}
 use Rattle.plain_table.specs.Area.{count_below, greatest_below}
 use Rattle.plain_table.specs.Words.{free_word, no_access_word, next_free}
-
--- the kinds of entry words that a sweep tells apart
-abbrev pub is_marked_word : ℕ → Bool
-is_marked_word word = nat_le (2 ^ 62) word
-
-abbrev pub is_evacuation_word : ℕ → Bool
-is_evacuation_word word = nat_le (2 ^ 58) word && nat_lt word (2 ^ 59)
-
-abbrev pub is_cell_word : ℕ → Bool
-is_cell_word word = (nat_le (2 ^ 48) word && nat_lt word (2 ^ 56)) || nat_le (2 ^ 59) word
+use Rattle.word_laws.specs.Kinds.{is_cell_word, is_evacuation_word, is_marked_word}
 
 -- what stays in the last pass, and what is used after it
 abbrev pub stays : (ℕ → ℕ) → ℕ → ℕ → Bool

@@ -11,7 +11,7 @@ use Rattle.plain_table.specs.History.{IsLegalHistory, after}
 use Rattle.plain_table.specs.Scans.{Scanner, Scans, IsReadAtMeet}
 use Rattle.plain_table.specs.Shows.{Shows}
 use Rattle.plain_table.specs.Sweeps.{meeting, MayScanAtMeet}
-use Rattle.sweeper.specs.Pass.{is_marked_word, is_cell_word}
+use Rattle.word_laws.specs.Kinds.{is_marked_word, is_cell_word}
 use Rattle.sweeper.specs.Moves.{external_base}
 
 -- a run of events by the meeting, from one point of its scans to another: it is legal, and the words after it show the

@@ -4,7 +4,7 @@ use Rattle.std.specs.Prelude.{ℕ, ◌+◌, ◌-◌, ◌/◌, ◌%◌, ◌^◌, 
 use Rattle.plain_table.specs.declared.events.Field.TheVariants as field
 use Rattle.plain_table.specs.Index.{index_of}
 use Rattle.plain_table.specs.Words.{evacuation_word, freelist_word, field_place}
-use Rattle.sweeper.specs.Pass.{is_cell_word}
+use Rattle.word_laws.specs.Kinds.{is_cell_word}
 use Rattle.sweeper.specs.Pause.{marked_after}
 use Rattle.sweeper.specs.Whole.{moving_of}
 

@@ -14,7 +14,8 @@ use Rattle.plain_table.specs.Shows.{Shows}
 use Rattle.plain_table.specs.Sound.{IsSound}
 use Rattle.plain_table.specs.Sweeps.{cells_in, IsSweep}
 use Rattle.sweeper.specs.Small.{AreSmall}
-use Rattle.sweeper.specs.Pass.{is_cell_word, moved_after, entries_from}
+use Rattle.word_laws.specs.Kinds.{is_cell_word}
+use Rattle.sweeper.specs.Pass.{moved_after, entries_from}
 use Rattle.sweeper.specs.Ready.{IsReady}
 use Rattle.sweeper.specs.Moves.{external_base}
 use Rattle.entry_word.specs.declared.image.Shape.{Shape}

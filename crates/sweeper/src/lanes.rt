@@ -1,7 +1,7 @@
 // Kernels over the entry words of a segment, eight lanes at a time.
 ghost use Rattle.std.specs.Prelude.{◌≡◌, ℕ, ◌+◌, ◌<◌, ◌≤◌, ◌^◌, ◌-◌, if◌then◌else◌, map, length, slice_index};
 ghost use Rattle.std.specs.Simd.Lanes.{mask_l, chunk, put_chunk};
-ghost use Rattle.sweeper.specs.Bits.{bit, is_cell_bits, is_marked, is_moved, unmarked};
+ghost use Rattle.sweeper.specs.Bits.{bit, is_cell_bits, is_marked, is_moved, without_mark};
 
 use std::simd::prelude::*;
 
@@ -117,7 +117,7 @@ pub fn cell_mask(words: &[u64]) -> u64
 /// Clears bit 62 of eight words.
 fn clear_at(words: &mut [u64], at: usize)
     requires { at + 8 ≤ length words.old }
-    ensures { words.new ≡ put_chunk at words.old (map unmarked (chunk at 8 words.old)) }
+    ensures { words.new ≡ put_chunk at words.old (map without_mark (chunk at 8 words.old)) }
 {
     let lanes = u64x8::from_slice(&words[at..]) & u64x8::splat(!MARK);
     lanes.copy_to_slice(&mut words[at..]);
@@ -125,7 +125,7 @@ fn clear_at(words: &mut [u64], at: usize)
 
 /// Clears bit 62 of each word, and nothing else.
 pub fn clear_marks(words: &mut [u64])
-    ensures { words.new ≡ map unmarked words.old }
+    ensures { words.new ≡ map without_mark words.old }
 {
     let mut at = 0;
     while words.len() - at >= 8 {

@@ -1,7 +1,8 @@
 // The last pass of a sweep over the entry words of one space.
 ghost use Rattle.std.specs.Prelude.{◌≡◌, ℕ, ◌+◌, ◌-◌, ◌*◌, ◌/◌, ◌^◌, ◌<◌, ◌≤◌, Bool, nat_le, nat_lt, ◌&&◌, not, if◌then◌else◌, length, slice_index};
 ghost use Rattle.plain_table.specs.Words.{free_word, freelist_word, no_access_word};
-ghost use Rattle.sweeper.specs.Pass.{is_marked_word, is_evacuation_word, is_cell_word, entries_from, greatest_after, IsPassAt, IsTallyAt, IsCountedIn, one_if};
+ghost use Rattle.word_laws.specs.Kinds.{is_marked_word, is_evacuation_word, is_cell_word};
+ghost use Rattle.sweeper.specs.Pass.{entries_from, greatest_after, IsPassAt, IsTallyAt, IsCountedIn, one_if};
 ghost use Rattle.sweeper.specs.Ready.{IsSpaceSwept};
 
 use std::marker::Model;

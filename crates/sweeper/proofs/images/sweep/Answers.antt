@@ -1,6 +1,6 @@
 use Rattle.std.proofs.Common.{◌≡◌, ◌+◌, ◌*◌, ◌<◌, ℕ, List, Option, Some, None, map, length, get_or, slice_index, refl, sym, ap, subst, ◌∙◌, arith}
 use Rattle.std.specs.Prelude.{slice_index_or, nat_lt, ◌&&◌, Bool, true, false, if◌then◌else◌}
-use Rattle.sweeper.specs.Pass.{is_marked_word}
+use Rattle.word_laws.specs.Kinds.{is_marked_word}
 use Rattle.sweeper.specs.Small.{AreSmall}
 use Rattle.std.specs.Option.{option_map}
 use Rattle.std.specs.Vec.{with_items}

@@ -1,6 +1,7 @@
 use Rattle.std.proofs.Common.{◌≡◌, ◌+◌, ◌-◌, ◌<◌, subst, inl, arith, get_or}
 use Rattle.std.specs.Prelude.{nat_lt, nat_le, ◌&&◌}
-use Rattle.sweeper.specs.Pass.{entries_from, IsPassAt, IsTallyAt, is_marked_word, is_cell_word, is_evacuation_word, IsCountedIn}
+use Rattle.word_laws.specs.Kinds.{is_marked_word, is_cell_word, is_evacuation_word}
+use Rattle.sweeper.specs.Pass.{entries_from, IsPassAt, IsTallyAt, IsCountedIn}
 use Rattle.sweeper.proofs.PassSteps.{IsPassAt-step, IsTallyAt-step, IsFew-step, IsPassAt-start, IsTallyAt-start}
 use Rattle.sweeper.proofs.pass.sweep_entries.Goals as goal
 
