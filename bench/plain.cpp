@@ -30,7 +30,7 @@ enum class Kind : std::uint8_t {
     trusted_make, publish, trusted_load, trusted_raw, share
 };
 
-// The places behind an operation's name: `a` its variable, `b` another variable, `c` the same or `-`, `k` a reference,
+// The places after an operation's name: `a` its variable, `b` another variable, `c` the same or `-`, `k` a reference,
 // `f` a field, `g` a global, `t` a tag, `w` an index word, `x` a value.
 struct Form { std::string_view name, places; };
 constexpr std::array<Form, 19> forms{{

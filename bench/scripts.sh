@@ -18,9 +18,9 @@ runs=15
 most_bytes=4194304
 
 # A script of so many operations, of one kind, in a table of 256 segments of 256 entries.
-#   loads   behind one cell
+#   loads   of one cell
 #   inits   two for each new object; past 16,384 objects the fields are taken, and past 65,535 cells the table is full
-#   stores  behind one cell, of another value each
+#   stores  into one cell, of another value each
 #   raw     stores and loads by the word of each index in turn, a third of which have a cell
 #   comment no operation, and one comment that makes up the most bytes that a script may have
 script() {
