@@ -1,6 +1,6 @@
 // What `sweep_times` does, in plain C++: plain_sweep WHAT SEG SEGMENTS N. It makes N images of one space in which nothing was
-// made, and where WHAT is `cycle` a cycle on each: the marks are cleared, the used indexes are found by the freelist, and one
-// pass from the top down links the free entries and closes the segments that are free.
+// made, and where WHAT is `cycle` a cycle on each: the marks are cleared, the used indexes are counted by the freelist, and one
+// pass from the top down links the free entries and closes the free segments above the highest cell.
 #include <cstdint>
 #include <cstdlib>
 #include <cstring>
@@ -27,32 +27,30 @@ static bool is_cell(uint64_t word) { return (word & ~mark & ~(evacuation * 2)) >
 
 static uint64_t cycle(Space &s) {
     for (uint64_t &word : s.words) word &= ~mark;
-    std::vector<bool> unused(s.words.size());
-    uint64_t at = s.head;
-    for (uint64_t n = 0; n < s.length; n++) {
-        unused[at] = true;
-        at = s.words[at] - free_bit;
-    }
+    uint64_t at = s.head, used = s.words.size();
+    for (uint64_t n = 0; n < s.length; n++, used--) at = s.words[at] - free_bit;
     uint64_t head = 0, length = 0, kept = 0;
-    bool live = false;
-    for (uint64_t i = s.words.size() - 1; i > 0; i--) {
-        const uint64_t word = s.words[i];
-        if (is_cell(word) && word & mark) {
-            kept++;
-            live = true;
-        } else if (word != no_access || live) {
-            s.words[i] = free_bit + head;
-            head = i;
-            length++;
+    for (uint64_t first = s.words.size(); first > 0;) {
+        const uint64_t after = first;
+        first -= s.segment;
+        for (uint64_t i = after - 1; i + 1 > first && i > 0; i--) {
+            const uint64_t word = s.words[i];
+            if (is_cell(word) && word & mark) {
+                kept++;
+            } else {
+                s.words[i] = free_bit + head;
+                head = i;
+                length++;
+            }
         }
-        if (i % s.segment == 0 && !live && i != 0) {
-            for (uint64_t j = i; j < i + s.segment; j++) s.words[j] = no_access;
+        if (kept == 0 && first > 0) {
+            for (uint64_t i = first; i < after; i++) s.words[i] = no_access;
             head = length = 0;
         }
     }
     s.head = head;
     s.length = length;
-    return kept + length;
+    return used > s.words.size() ? 0 : kept + length;
 }
 
 int main(int count, char **words) {
