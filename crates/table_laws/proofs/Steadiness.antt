@@ -1,4 +1,4 @@
--- The law of steadiness: an event beside the start and the finish of a cycle leaves what others have, and lets the rest
+-- The law of steadiness: an event other than the start and the finish of a cycle leaves what others have, and lets the rest
 -- only grow.
 use Rattle.std.proofs.Common.{ℕ}
 use Rattle.plain_table.specs.declared.events.Act.{Act}
