@@ -1,11 +1,35 @@
 -- Pieces that are given or taken one after the other are given or taken together.
-use Rattle.std.proofs.Common.{◌≡◌, ℕ, ◌+◌, ◌-◌, ◌<◌, ◌≤◌, Option, List, ◌++◌, length, take, drop, arith, length-drop, length-take-le, sym}
-use Rattle.std.proofs.KnownBytes.{Appends-trans}
+use Rattle.std.proofs.Common.{◌≡◌, ℕ, ◌+◌, ◌-◌, ◌<◌, ◌≤◌, Option, None, Some, List, [], ◌++◌, length, take, drop, arith, append_assoc, append-nil, length-drop, length-take-le, ap, refl, sym, ◌∙◌}
+use Rattle.std.specs.Io.KnownBytes.{append_known, prepend_known}
 use Rattle.std.proofs.Math.Seq.{take-add}
 use Rattle.std.proofs.lemmas.List.{take_rest}
-use Rattle.ept_io.specs.Bytes.{Took}
+use Rattle.ept_io.specs.Bytes.{Gave, Took}
 use Rattle.ept_io.specs.Calls.{InCalls}
 use Rattle.ept_io.specs.Calls.InCalls.{more}
+
+-- nothing was given
+pub Gave-nil : (left : Option (List ℕ)) → Gave left [] left
+Gave-nil None = refl
+Gave-nil (Some bytes) = refl
+
+-- what was given first and what was given then
+pub Gave-then : (old mid new : Option (List ℕ)) (first then : List ℕ) → Gave old first mid → Gave mid then new →
+    Gave old (first ++ then) new
+Gave-then old mid None first then gave later = gave ∙ ap (prepend_known first) later
+Gave-then old mid (Some rest) first then gave later =
+    gave ∙ ap (prepend_known first) later ∙ ap (λ bytes. Some bytes) (sym (append_assoc first then rest))
+
+-- nothing was taken
+pub Took-nil : (written : Option (List ℕ)) → Took written [] written
+Took-nil None = refl
+Took-nil (Some bytes) = ap (λ all. Some all) (sym (append-nil bytes))
+
+-- what was taken first and what was taken then
+pub Took-then : (old mid new : Option (List ℕ)) (first then : List ℕ) → Took old first mid → Took mid then new →
+    Took old (first ++ then) new
+Took-then None mid new first then took later = later ∙ ap (λ told. append_known told then) took
+Took-then (Some before) mid new first then took later =
+    later ∙ ap (λ told. append_known told then) took ∙ ap (λ bytes. Some bytes) (append_assoc before first then)
 
 -- the first n bytes of `&bytes[done..]` stand after the first `done`
 pub front-more : (bytes : List ℕ) (done n : ℕ) →
@@ -17,7 +41,7 @@ pub took_more : (old mid new : Option (List ℕ)) (bytes : List ℕ) (done n : �
     Took old (take done bytes) mid → Took mid (take n (take (length bytes - done) (drop done bytes))) new →
     Took old (take (done + n) bytes) new
 took_more old mid new bytes done n first then =
-    rw (← front-more bytes done n) (Appends-trans old mid new _ _ first then)
+    rw (← front-more bytes done n) (Took-then old mid new _ _ first then)
 
 -- calls, and then one that moved the first n bytes of a buffer
 pub one_more_call : {A : Type 0} (moves : A → List ℕ → A → Type 0) (old mid new : A) (bytes buf : List ℕ) (n : ℕ) →

@@ -1,13 +1,24 @@
 -- What contracts see of a source over a reader and of a sink over a writer, and what a call does to it.
-use Rattle.std.specs.Prelude.{◌≡◌, ℕ, Option, List}
-use Rattle.std.specs.Io.KnownBytes.{Keeps}
+use Rattle.std.specs.Prelude.{◌≡◌, ℕ, Bool, true, false, Option, None, Some, List}
 use Rattle.ept_io.specs.Bytes.{Gave, Took}
 use Rattle.ept_io.specs.Faults.{raised}
 
--- the bytes that the reader has left, or that the writer holds, where it tells them; and the faults so far
+-- the bytes that the reader has left, or that the writer holds, where it has told them from the first; and the faults so far
 pub record Stream : Type 0 where
   pub bytes : Option (List ℕ)
   pub faults : ℕ
+
+-- what is told of a reader or a writer that told `first` at the start and tells `now`: nothing where it told nothing at
+-- the start, since std's contracts let it tell its bytes later
+abbrev pub told_since : Option (List ℕ) → Option (List ℕ) → Option (List ℕ)
+told_since None now = None
+told_since (Some bytes) now = now
+
+-- what told its bytes at the start tells them now
+abbrev pub tells_on : Option (List ℕ) → Option (List ℕ) → Bool
+tells_on None now = true
+tells_on (Some bytes) None = false
+tells_on (Some bytes) (Some left) = true
 
 -- a read gave these bytes
 abbrev pub HasGiven : Stream → List ℕ → Stream → Type 0
@@ -19,4 +30,4 @@ HasTaken old bytes new = Took old.bytes bytes new.bytes × (new.faults ≡ old.f
 
 -- a read or a write failed
 abbrev pub HasFailed : Stream → Stream → Type 0
-HasFailed old new = Keeps old.bytes new.bytes × (new.faults ≡ raised old.faults)
+HasFailed old new = (new.bytes ≡ old.bytes) × (new.faults ≡ raised old.faults)

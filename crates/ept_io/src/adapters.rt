@@ -1,6 +1,8 @@
 // The edge to the outside: a source over any reader of std, and a sink over any writer. They tell
-// the bytes that the reader and the writer tell, which the process's own streams don't.
-ghost use Rattle.std.specs.Prelude.{◌≡◌, ◌≢◌, ◌<◌, ◌≤◌, length, take, IfErr, IfOk, OnErr};
+// the bytes that the reader and the writer tell, which the process's own streams don't. By std's
+// contracts one that tells nothing may tell its bytes later; of such a one they go on telling
+// nothing.
+ghost use Rattle.std.specs.Prelude.{◌≡◌, ◌≢◌, ◌<◌, ◌≤◌, Some, length, take, IfErr, IfOk, IfSome, OnErr};
 ghost use Rattle.std.specs.IoError.{error_kind};
 ghost use Rattle.std.specs.Io.KnownBytes.{IsAtEnd, ReadConsumes, WriteAppends};
 ghost use Rattle.std.specs.Io.{ReadsAtMost, WritesAtMost};
@@ -11,25 +13,31 @@ use crate::traits::{Sink, Source};
 use std::io;
 use std::io::{ErrorKind, Read, Write};
 use std::marker::Model;
+use std::snapshot::Snapshot;
 
 /// A source over a reader. Contracts see it as a `Stream` (specs/Streams.antt): the bytes that the
-/// reader has left, where the reader tells them, and the count of faults, a u64 that rises at each
-/// error, up to 2^64 - 1.
+/// reader has left, where the reader told them at `new`, and the count of faults, a u64 that rises
+/// at each error, up to 2^64 - 1.
 #[derive(Drop)]
 pub struct ReadSource<R: Read> {
     inner: R,
+    // The reader at `new`, for contracts alone.
+    first: Snapshot<R>,
     faults: FaultCount,
 }
 
 impl<R: Read> Model for ReadSource<R> {
-    ghost use Rattle.ept_io.specs.Streams.{Stream};
+    ghost use Rattle.std.specs.Prelude.{◌≡◌, true};
+    ghost use Rattle.ept_io.specs.Streams.{Stream, tells_on, told_since};
 
     ghost Value = { Stream };
 
     ghost view = { λ s. record {
-      bytes = R.remaining s.inner;
+      bytes = told_since (R.remaining s.first.value) (R.remaining s.inner);
       faults = s.faults.count;
     } };
+
+    ghost invariant = { λ s. tells_on (R.remaining s.first.value) (R.remaining s.inner) ≡ true };
 }
 
 impl<R: Read> ReadSource<R> {
@@ -38,8 +46,10 @@ impl<R: Read> ReadSource<R> {
         ensures left { ⟦<ReadSource<R> as Source>⟧.left result ≡ R.remaining inner }
         ensures faults { ⟦<ReadSource<R> as Source>⟧.faults result ≡ 0 }
     {
+        let first = Snapshot::of(&inner);
         ReadSource {
             inner,
+            first,
             faults: FaultCount::new(),
         }
     }
@@ -88,23 +98,28 @@ fn read_again<R: Read>(reader: &mut R, buf: &mut [u8]) -> io::Result<usize>
 }
 
 /// A sink over a writer. Contracts see it as a `Stream` (specs/Streams.antt): the bytes that the
-/// writer holds, where the writer tells them, and the count of faults, a u64 that rises at each
-/// error and at each write that took nothing, up to 2^64 - 1.
+/// writer holds, where the writer told them at `new`, and the count of faults, a u64 that rises at
+/// each error and at each write that took nothing, up to 2^64 - 1.
 #[derive(Drop)]
 pub struct WriteSink<W: Write> {
     inner: W,
+    // The writer at `new`, for contracts alone.
+    first: Snapshot<W>,
     faults: FaultCount,
 }
 
 impl<W: Write> Model for WriteSink<W> {
-    ghost use Rattle.ept_io.specs.Streams.{Stream};
+    ghost use Rattle.std.specs.Prelude.{◌≡◌, true};
+    ghost use Rattle.ept_io.specs.Streams.{Stream, tells_on, told_since};
 
     ghost Value = { Stream };
 
     ghost view = { λ s. record {
-      bytes = W.contents s.inner;
+      bytes = told_since (W.contents s.first.value) (W.contents s.inner);
       faults = s.faults.count;
     } };
+
+    ghost invariant = { λ s. tells_on (W.contents s.first.value) (W.contents s.inner) ≡ true };
 }
 
 impl<W: Write> WriteSink<W> {
@@ -113,15 +128,17 @@ impl<W: Write> WriteSink<W> {
         ensures written { ⟦<WriteSink<W> as Sink>⟧.written result ≡ W.contents inner }
         ensures faults { ⟦<WriteSink<W> as Sink>⟧.faults result ≡ 0 }
     {
+        let first = Snapshot::of(&inner);
         WriteSink {
             inner,
+            first,
             faults: FaultCount::new(),
         }
     }
 
-    /// The writer, with what was written to it.
+    /// The writer, with what was written to it, where that is told.
     pub fn into_inner(self) -> W
-        ensures { W.contents result ≡ ⟦<WriteSink<W> as Sink>⟧.written self }
+        ensures { IfSome (⟦<WriteSink<W> as Sink>⟧.written self) (λ bytes. W.contents result ≡ Some bytes) }
     {
         self.inner
     }

@@ -209,8 +209,8 @@ fn a_full_writer_is_a_fault(rt: HostRuntime) -> Result<(), Fail> {
     for room in 0..SCRIPT.len() {
         let mut memory = [0u8; 28];
         let mut left = &mut memory[..room];
-        let sink = &mut WriteSink::new(&mut left);
-        assert_eq!(rt; write_all(sink, SCRIPT), Err(Failed), "room {room}");
+        let answer = write_all(&mut WriteSink::new(&mut left), SCRIPT);
+        assert_eq!(rt; answer, Err(Failed), "room {room}");
         assert!(rt; Some(&memory[..room]) == SCRIPT.get(..room), "room {room}");
     }
     Ok(())

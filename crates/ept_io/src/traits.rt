@@ -1,14 +1,15 @@
 // What gives bytes, and what takes them.
 ghost use Rattle.std.specs.Prelude.{◌≡◌, ℕ, ◌-◌, ◌<◌, ◌≤◌, Option, List, length, take, IfOk, IsOk, IsOkAnd, OnErr, OnOk};
-ghost use Rattle.std.specs.Io.KnownBytes.{IsAtEnd, Keeps};
+ghost use Rattle.std.specs.Io.KnownBytes.{IsAtEnd};
 ghost use Rattle.ept_io.specs.Bytes.{Gave, Took};
 ghost use Rattle.ept_io.specs.Faults.{Rose};
 
 use crate::faults::Failed;
 
-/// What gives bytes in order. Contracts see the bytes that it has left, where it tells them, a
-/// count of its faults that never falls, whether it is steady (then no later read of it fails),
-/// and what one read does to it, by which a call says which reads it makes.
+/// What gives bytes in order. Contracts see the bytes that it has left, where it tells them (a
+/// source that tells nothing goes on telling nothing), a count of its faults that never falls,
+/// whether it is steady (then no later read of it fails), and what one read does to it, by which a
+/// call says which reads it makes.
 pub trait Source {
     // The bytes left, where the source tells them.
     ghost left: { Self → Option (List ℕ) };
@@ -33,7 +34,7 @@ pub trait Source {
         ensures count { IfOk result (λ n. n ≤ length buf.new) }
         ensures bytes { IfOk result (λ n. Gave (left self.old) (take n buf.new) (left self.new)) }
         ensures end { IfOk result (λ n. n ≡ 0 → IsAtEnd (left self.new)) }
-        ensures none_taken { OnErr result (Keeps (left self.old) (left self.new)) }
+        ensures none_taken { OnErr result (left self.new ≡ left self.old) }
         ensures never_falls { faults self.old ≤ faults self.new }
         ensures cause { OnErr result (Rose (faults self.old) (faults self.new)) }
         ensures no_fault { OnOk result (faults self.new ≡ faults self.old) }
@@ -47,9 +48,10 @@ pub trait Source {
             IsOk result × is_steady self.new × (faults self.new ≡ faults self.old) };
 }
 
-/// What takes bytes in order. Contracts see the bytes that were written, where it tells them, a
-/// count of its faults that never falls, for how many bytes it has room without a fault, and what
-/// one write does to it, by which a call says which writes it makes.
+/// What takes bytes in order. Contracts see the bytes that were written, where it tells them (a
+/// sink that tells nothing goes on telling nothing), a count of its faults that never falls, for
+/// how many bytes it has room without a fault, and what one write does to it, by which a call says
+/// which writes it makes.
 pub trait Sink {
     // The bytes written so far, where the sink tells them.
     ghost written: { Self → Option (List ℕ) };
@@ -75,7 +77,7 @@ pub trait Sink {
         ensures count { IfOk result (λ n. n ≤ length buf.now) }
         ensures bytes { IfOk result (λ n.
             Took (written self.old) (take n buf.now) (written self.new)) }
-        ensures none_appended { OnErr result (Keeps (written self.old) (written self.new)) }
+        ensures none_appended { OnErr result (written self.new ≡ written self.old) }
         ensures never_falls { faults self.old ≤ faults self.new }
         ensures cause { OnErr result (Rose (faults self.old) (faults self.new)) }
         ensures no_fault { OnOk result (faults self.new ≡ faults self.old) }

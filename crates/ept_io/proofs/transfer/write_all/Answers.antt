@@ -1,15 +1,14 @@
 use Rattle.std.proofs.Common.{arith, ◌≡◌, ◌-◌, ◌+◌, ◌∙◌, ℕ, refl, rules, subst}
 use native.Mathlib.Numerals.{unary_clauses}
-use Rattle.std.proofs.KnownBytes.{Appends-nil}
 use Rattle.ept_io.specs.Calls.InCalls.{none}
-use Rattle.ept_io.proofs.Pieces.{took_more, one_more_write, rest-fits}
+use Rattle.ept_io.proofs.Pieces.{Took-nil, took_more, one_more_write, rest-fits}
 use Rattle.ept_io.proofs.transfer.write_all.Goals as goal
 
 -- nothing is taken yet
 pub loop-done-init : goal.loop-done-init
 loop-done-init g c = record {
   within = search rules;
-  appended = Appends-nil _;
+  appended = Took-nil _;
   writes = none;
   no_fault = refl;
   room = λ room has fits. simp unary_clauses has;
