@@ -1,5 +1,5 @@
 -- Words that are ready show the finished table after the sweep of their space.
-use Rattle.std.proofs.Common.{◌≡◌, ◌+◌, ◌-◌, ◌*◌, ◌/◌, ◌^◌, ◌<◌, ◌≤◌, ℕ, zero, suc, Bool, true, false, not, List, slice_index, Option, Some, None, refl, sym, ap, ap₂, subst, ◌∙◌, inl, inr, arith, lt-ltb, le-ltb, le-leb, eqb-true}
+use Rattle.std.proofs.Common.{◌≡◌, ◌+◌, ◌-◌, ◌*◌, ◌/◌, ◌^◌, ◌<◌, ◌≤◌, ℕ, Bool, true, false, not, List, slice_index, Option, Some, None, refl, sym, ap, ap₂, subst, ◌∙◌, inl, inr, arith, lt-ltb, le-ltb, le-leb, eqb-true}
 use Rattle.std.specs.Prelude.{unwrap_or, is_some, ◌||◌, ◌==◌, nat_lt, nat_le, if◌then◌else◌}
 use Rattle.std.proofs.lemmas.Bool.{cases_lt, lt-leb, and_from, or_cases, or_right, or_parts, cond-true, cond-false, both_ways}
 use Rattle.std.proofs.lemmas.Bool.Decides.{eqb_tells}
@@ -7,40 +7,17 @@ use Rattle.std.proofs.lemmas.Option.{none-some}
 use Rattle.plain_table.specs.declared.events.Cell.{Cell}
 use Rattle.plain_table.specs.declared.events.Space.{Space}
 use Rattle.plain_table.specs.declared.events.Space.TheVariants.{External, Trusted}
-use Rattle.plain_table.specs.Area.{greatest_below, segments_in_use}
+use Rattle.plain_table.specs.Area.{segments_in_use}
 use Rattle.plain_table.specs.Cycle.{Cycle}
 use Rattle.plain_table.specs.Table.{Table, limit_of}
 use Rattle.plain_table.specs.Finish.{swept, finished}
 use Rattle.plain_table.specs.Words.{cell_word, free_word, no_access_word, freelist_word, next_free}
 use Rattle.plain_table.specs.Shows.{SpaceShows, entry_at, IsEmptyIndex}
-use Rattle.plain_table.proofs.Options.{IsSome-value}
-use Rattle.plain_table.proofs.AreaStarts.{greatest_below-is, greatest_below-some}
-use Rattle.plain_table.proofs.FreeLists.{least_from-same, count_below-same}
+use Rattle.plain_table.proofs.AreaStarts.{greatest_below-same, segments_in_use-past}
+use Rattle.plain_table.proofs.FreeLists.{next_free-same, count_below-same}
 use Rattle.word_laws.specs.Kinds.{is_marked_word}
 use Rattle.sweeper.specs.Pass.{Tally, stays, used_after, free_after, entries_from}
 use Rattle.sweeper.specs.Ready.{IsReady, IsSpaceAfter}
-
-pub greatest_below-same : (set other : ℕ → Bool) (n : ℕ) → ((k : ℕ) → other k ≡ set k) → greatest_below other n ≡ greatest_below set n
-greatest_below-same set other zero same = refl
-greatest_below-same set other (suc n) same =
-    ap₂ (λ (b : Bool) found. if b then Some n else found) (same n) (greatest_below-same set other n same)
-
-pub next_free-same : (used other : ℕ → Bool) (i end : ℕ) → ((k : ℕ) → other k ≡ used k) → next_free other i end ≡ next_free used i end
-next_free-same used other i end same = ap (λ found. unwrap_or found end) (least_from-same used other i (end - i) (λ k from. same k))
-
--- a member of a set is in a segment in use
-pub within_segments : (set : ℕ → Bool) (limit seg i : ℕ) → 1 ≤ seg → i < limit → set i ≡ true → i < segments_in_use set limit seg * seg
-within_segments set limit seg i one below is =
-    let found = IsSome-value (greatest_below set limit) (greatest_below-some set limit i below is) in
-    let g = greatest_below-is set limit found.0 found.1 in
-    let most : i ≤ found.0 = elim (cases_lt found.0 i) [
-      | inl less ↦ absurd (both_ways (set i) (g.greatest i less below) is)
-      | inr more ↦ more
-    ] in
-    subst (λ o. i < (1 + unwrap_or o 0 / seg) * seg) (sym found.1) (past i found.0 seg one most)
-  where
-    past : (i g seg : ℕ) → 1 ≤ seg → i ≤ g → i < (1 + g / seg) * seg
-    past i g seg one most = omega arith
 
 unmarked : (cell : Cell) → cell_word cell true - 2 ^ 62 ≡ cell_word cell false
 unmarked cell = by cell.shown
@@ -92,7 +69,7 @@ module _ (s : Table) (c : Cycle) (p : Space) (old now : List ℕ) (base from lis
     free = free;
     empty = λ i is. absurd (no_empty i is);
     closed = closed;
-    list = h.at_list ∙ ap₂ freelist_word (next_free-same (used p) (used_after entry from) 1 committed same)
+    list = h.at_list ∙ ap₂ freelist_word (next_free-same (used p) (used_after entry from) 1 committed (λ k later. same k))
         (count_below-same (λ i. not (used p i)) (free_after entry from) committed (λ k _. ap not (same k)));
   }
     where
@@ -114,7 +91,7 @@ module _ (s : Table) (c : Cycle) (p : Space) (old now : List ℕ) (base from lis
       below : (i : ℕ) → used p i ≡ true → i < committed
       below i is =
           subst (λ n. i < n * s.sizes.seg) (sym segments)
-          (within_segments (used p) (limit_of s p) s.sizes.seg i one (finished-below s c p entry from ready some i is) is)
+          (segments_in_use-past (used p) (limit_of s p) s.sizes.seg i one (finished-below s c p entry from ready some i is) is)
 
       kept-used : (i : ℕ) (cell : Cell) → swept s c p i ≡ Some cell → used p i ≡ true
       kept-used i cell is = or_right (i == 0) (is_some (swept s c p i)) (ap is_some is)
@@ -153,7 +130,7 @@ module _ (s : Table) (c : Cycle) (p : Space) (old now : List ℕ) (base from lis
       free i first less is =
           committed_word i first less
           ∙ cond-false (stays entry from i) (entry i - 2 ^ 62) (free_word (next_free (used_after entry from) (i + 1) committed)) (stays-swept s c p entry from ready i ∙ (or_parts (i == 0) (is_some (swept s c p i)) is).1)
-          ∙ ap free_word (next_free-same (used p) (used_after entry from) (i + 1) committed same)
+          ∙ ap free_word (next_free-same (used p) (used_after entry from) (i + 1) committed (λ k later. same k))
 
       no_empty : (i : ℕ) → IsEmptyIndex (finished s c) p i → ⊥
       no_empty i is = elim (or_cases (i == 0) (is_some (swept s c p i)) is.used) [

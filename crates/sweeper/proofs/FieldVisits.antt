@@ -1,10 +1,10 @@
 -- The visits of an object's three fields at a pause, as runs of events.
-use Rattle.std.proofs.Common.{◌≡◌, ◌⊎◌, ◌+◌, ◌*◌, ◌<◌, ℕ, List, [], ◌∷◌, slice_index, Some, sym, ap, subst, ◌∙◌, inl, inr, arith}
-use Rattle.std.proofs.lemmas.Bool.Decides.{eqb_tells}
+use Rattle.std.proofs.Common.{◌≡◌, ◌⊎◌, ◌+◌, ◌*◌, ◌<◌, ℕ, List, [], ◌∷◌, slice_index, Some, sym, subst, ◌∙◌, inl, inr, arith, refl}
 use Rattle.plain_table.specs.declared.events.Space.TheVariants.{External}
 use Rattle.plain_table.specs.declared.events.Field.{Field}
 use Rattle.plain_table.specs.declared.events.Field.TheVariants as field
 use Rattle.plain_table.specs.Index.{index_of}
+use Rattle.plain_table.specs.Shapes.{external_field}
 use Rattle.plain_table.specs.Places.{object_of}
 use Rattle.plain_table.specs.Cycle.{Cycle, IsOld}
 use Rattle.plain_table.specs.Table.{Table, Sizes, limit_of}
@@ -14,16 +14,16 @@ use Rattle.plain_table.specs.History.{after}
 use Rattle.plain_table.specs.Shows.{Shows}
 use Rattle.plain_table.specs.Sound.{IsSound}
 use Rattle.table_laws.specs.Steady.{CycleSteady}
-use Rattle.table_laws.proofs.Soundness.{events-sound}
-use Rattle.table_laws.proofs.Steadiness.{events-steady}
 use Rattle.sweeper.specs.Marking.{external_visits, trusted_visit, all_visited}
-use Rattle.sweeper.specs.Pause.{base_of, marked_after}
+use Rattle.word_laws.specs.Runs.{base_of, marked_after}
 use Rattle.sweeper.specs.Small.{AreSmall}
 use Rattle.sweeper.specs.Visits.{moved_out, visited}
-use Rattle.sweeper.proofs.Calm.{pause-visits, calm-after, kept-after, IsKeptBy}
+use Rattle.table_laws.proofs.PauseActs.{mark-visits, pause-visits}
+use Rattle.table_laws.proofs.PauseKeeps.{calm-after, kept-after, IsKeptBy}
 use Rattle.sweeper.proofs.MoveRuns.{moved-run}
-use Rattle.sweeper.proofs.Runs.{mark-runs}
-use Rattle.sweeper.proofs.ScanRuns.{IsPartly, partly-none, partly-more, AreSmall-calm, fields_of}
+use Rattle.word_laws.proofs.Runs.{mark-runs}
+use Rattle.sweeper.proofs.ScanRuns.{IsPartly, partly-none, partly-more, AreSmall-calm}
+use Rattle.plain_table.proofs.ObjectFields.{each_field, fields_of}
 use Rattle.sweeper.proofs.Visits.{IsVisited, visit-external, visit-trusted}
 
 -- what was old stays old
@@ -53,9 +53,9 @@ module _ (linked : List ℕ) (s : Table) (c : Cycle) (h : IsSound s) (is : s.cyc
           (moved_out (marked_after words (base_of s External) (limit_of s External) (index_of (s.words (field.External number)))) (32 + 8 * z.objects) (z.seg * z.ext) number (index_of (s.words (field.External number))))
       visit =
           let marks = mark-runs linked s c h is small words shows o (field.External number) fields of old in
-          let acts = pause-visits marks.0 marks.2 in
+          let acts = pause-visits marks.0 (mark-visits External (index_of (s.words (field.External number))) marks.0 marks.2) in
           let calm = calm-after marks.0 s acts in
-          let kept = kept-after events-steady events-sound marks.0 s c h is acts marks.1.legal in
+          let kept = kept-after marks.0 s c h is acts marks.1.legal in
           let old_after : IsOld kept.cycle (object_of (field.External number)) = IsOld-steady c kept.cycle (object_of (field.External number)) kept.steady (subst (IsOld c) (sym of) old) in
           let marked = marked_after words (base_of s External) (limit_of s External) (index_of (s.words (field.External number))) in
           visit-external linked s c h is small words shows o number fields (moved_out marked (32 + 8 * z.objects) (z.seg * z.ext) number (index_of (s.words (field.External number)))) of old
@@ -83,7 +83,7 @@ module _ (linked : List ℕ) (s : Table) (c : Cycle) (h : IsSound s) (is : s.cyc
   partly-by f now before visit =
       let acts = pause-visits before.events before.acts in
       let calm = calm-after before.events s acts in
-      let kept = kept-after events-steady events-sound before.events s c h is acts before.run.legal in
+      let kept = kept-after before.events s c h is acts before.run.legal in
       partly-more linked s c h is o all fields f Done mid now before
       (visit kept (calm.sizes ∙ same) (AreSmall-calm s (after s before.events) calm small) (subst (λ (y : Sizes). o < y.objects) (sym calm.sizes) few) (IsOld-steady c kept.cycle o kept.steady old))
 
@@ -101,23 +101,21 @@ module _ (linked : List ℕ) (s : Table) (c : Cycle) (h : IsSound s) (is : s.cyc
 
 -- the fields that are visited
 abbrev pub AreVisited : ℕ → Field → Type 0
-AreVisited o g = ((⊥ ⊎ (g ≡ field.External (2 * o))) ⊎ (g ≡ field.External (2 * o + 1))) ⊎ (g ≡ field.Trusted o)
+AreVisited o g = ((⊥ ⊎ (g ≡ external_field o 0)) ⊎ (g ≡ external_field o 1)) ⊎ (g ≡ field.Trusted o)
 
 pub AreVisited-all : (o : ℕ) (f : Field) → object_of f ≡ o → AreVisited o f
-AreVisited-all o (field.External n) of = elim (eqb_tells n (2 * o)) [
-  | inl e ↦ inl (inl (inr (ap field.External e.1)))
-  | inr e ↦ inl (inr (ap field.External (omega (arith, of, e.1))))
-]
-AreVisited-all o (field.Trusted n) of = inr (ap field.Trusted of)
+AreVisited-all o = each_field (AreVisited o) o (inl (inl (inr refl))) (inl (inr refl)) (inr refl)
 
 pub visits-run : (linked : List ℕ) (s : Table) (c : Cycle) → IsSound s → s.cycle ≡ Some c → AreSmall s → (words : List ℕ) → Shows words s → (z : Sizes) → s.sizes ≡ z → (o : ℕ) → o < s.sizes.objects → IsOld c o →
     IsPartly linked s o (fields_of o) [] (AreVisited o) (all_visited words z o)
 visits-run linked s c h is small words shows z same o few old =
     let base = 32 + 8 * z.objects in
     let limit = z.seg * z.ext in
-    let two = field.External (2 * o + 1) ∷ field.Trusted o ∷ [] in
+    let two = external_field o 1 ∷ field.Trusted o ∷ [] in
     let one = field.Trusted o ∷ [] in
     let start = partly-none linked s o (fields_of o) words shows in
-    let first = partly-external linked s c h is small z same o few old (fields_of o) (λ f. ⊥) words two (2 * o) (omega arith) start in
-    let second = partly-external linked s c h is small z same o few old (fields_of o) (λ g. ⊥ ⊎ (g ≡ field.External (2 * o))) (visited words base limit (2 * o)) one (2 * o + 1) (omega arith) first in
-    partly-trusted linked s c h is small z same o few old (fields_of o) (λ g. (⊥ ⊎ (g ≡ field.External (2 * o))) ⊎ (g ≡ field.External (2 * o + 1))) (external_visits words z o) [] second
+    let first = partly-external linked s c h is small z same o few old (fields_of o) (λ f. ⊥) words two (2 * o + 0) (omega arith) start in
+    let first_at : IsPartly linked s o (fields_of o) two (λ g. ⊥ ⊎ (g ≡ external_field o 0)) (visited words base limit (2 * o)) =
+    subst (λ n. IsPartly linked s o (fields_of o) two (λ g. ⊥ ⊎ (g ≡ external_field o 0)) (visited words base limit n)) (omega arith) first in
+    let second = partly-external linked s c h is small z same o few old (fields_of o) (λ g. ⊥ ⊎ (g ≡ external_field o 0)) (visited words base limit (2 * o)) one (2 * o + 1) (omega arith) first_at in
+    partly-trusted linked s c h is small z same o few old (fields_of o) (λ g. (⊥ ⊎ (g ≡ external_field o 0)) ⊎ (g ≡ external_field o 1)) (external_visits words z o) [] second

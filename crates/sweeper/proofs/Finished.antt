@@ -25,7 +25,8 @@ use Rattle.sweeper.specs.Pass.{Tally, stays, freed_after, used_after, entries_fr
 use Rattle.sweeper.specs.Ready.{IsReady, IsSpaceAfter, IsSpaceSwept}
 use Rattle.sweeper.specs.Moves.{external_base}
 use Rattle.sweeper.specs.Whole.{IsResolved, IsTidied}
-use Rattle.sweeper.proofs.AfterPass.{SpaceShows-swept, stays-swept, used-swept, greatest_below-same}
+use Rattle.plain_table.proofs.AreaStarts.{greatest_below-same}
+use Rattle.sweeper.proofs.AfterPass.{SpaceShows-swept, stays-swept, used-swept}
 use Rattle.sweeper.proofs.SpaceSweeps.{IsSpaceAfter-kept}
 use Rattle.word_laws.proofs.EntryKinds.{cell-kind-at, no_cell-kind-at}
 use Rattle.sweeper.proofs.Still.{IsReady-still}
@@ -65,6 +66,19 @@ module _ (s : Table) (c : Cycle) (h : IsSound s) (is : s.cycle ≡ Some c) (smal
       by i below None stands = (no_cell-kind-at s c h is small p entry freelist committed shows i below stands).is_cell ∙ sym (ap is_some stands)
       by i below (Some cell) stands = (cell-kind-at s c h is small p entry freelist committed shows i cell stands).is_cell ∙ sym (ap is_some stands)
 
+-- after the sweep of the external space the trusted one is as it was, and ready for its own
+module _ (s : Table) (c : Cycle) (h : IsSound s) (is : s.cycle ≡ Some c) (small : AreSmall s) (w0 w1 w2 : List ℕ) (from segs : ℕ) (tally : Tally) (shows : Shows w0 s)
+    (resolved : IsResolved s c w0 w1 from) (external : IsSpaceSwept w1 w2 (external_base s) (limit_of s External) from s.sizes.seg 0 segs tally) where
+  pub trusted-kept : (k : ℕ) → k < limit_of s Trusted → slice_index w2 (external_base s + limit_of s External + k) ≡ slice_index w0 (external_base s + limit_of s External + k)
+  trusted-kept k below =
+      external.rest (external_base s + limit_of s External + k) (λ eq. omega (arith, eq)) (inr (omega arith))
+      ∙ resolved.rest (external_base s + limit_of s External + k) (inr (omega arith)) (λ n few eq. omega (arith, eq, field_place-below (field.External n) s.sizes.objects few))
+
+  pub trusted-ready : IsReady s c Trusted (entries_from w2 (external_base s + limit_of s External)) (limit_of s Trusted)
+  trusted-ready =
+      IsReady-same s c Trusted (entries_from w0 (external_base s + limit_of s External)) (entries_from w2 (external_base s + limit_of s External)) (limit_of s Trusted) (small.some Trusted) trusted-kept
+      (IsReady-still s c h is small Trusted (entries_from w0 (external_base s + limit_of s External)) (slice_index w0 2) shows.trusted.0 shows.trusted.1 (λ eq. absurd (cc)))
+
 module _ (s : Table) (c : Cycle) (h : IsSound s) (is : s.cycle ≡ Some c) (small : AreSmall s)
     (w0 w1 w2 w3 w4 : List ℕ) (from ext_segs tru_segs : ℕ) (ext tru : Tally)
     (shows : Shows w0 s)
@@ -90,14 +104,10 @@ module _ (s : Table) (c : Cycle) (h : IsSound s) (is : s.cycle ≡ Some c) (smal
       fixed place (omega (arith, low)) off_0 off_1 off_2 off_4 (λ o few eq. omega (arith, eq, low)) (λ n few eq. omega (arith, eq, low, field_place-from (field.External n)))
 
   tru_entry : (k : ℕ) → k < limit_of s Trusted → slice_index w2 (tru_base + k) ≡ slice_index w0 (tru_base + k)
-  tru_entry k below =
-      external.rest (tru_base + k) (λ eq. omega (arith, eq)) (inr (omega arith))
-      ∙ resolved.rest (tru_base + k) (inr (omega arith)) (λ n few eq. omega (arith, eq, field_place-below (field.External n) s.sizes.objects few))
+  tru_entry = trusted-kept s c h is small w0 w1 w2 from ext_segs ext shows resolved external
 
   ready-trusted : IsReady s c Trusted (entries_from w2 tru_base) (limit_of s Trusted)
-  ready-trusted =
-      IsReady-same s c Trusted (entries_from w0 tru_base) (entries_from w2 tru_base) (limit_of s Trusted) (small.some Trusted) tru_entry
-      (IsReady-still s c h is small Trusted (entries_from w0 tru_base) (slice_index w0 2) shows.trusted.0 shows.trusted.1 (λ eq. absurd (cc)))
+  ready-trusted = trusted-ready s c h is small w0 w1 w2 from ext_segs ext shows resolved external
 
   entry-kept : (place : ℕ) → external_base s ≤ place → slice_index w4 place ≡ slice_index w3 place
   entry-kept place from_base = tidied.rest place (λ eq. omega (arith, eq, from_base)) (λ eq. omega (arith, eq, from_base)) (λ o few eq. omega (arith, eq, from_base, few))

@@ -5,8 +5,10 @@ use Rattle.plain_table.specs.declared.events.Space.TheVariants.{External, Truste
 use Rattle.plain_table.specs.Cycle.{Cycle}
 use Rattle.plain_table.specs.Table.{Table}
 use Rattle.plain_table.specs.Words.{header_word, field_place, entry_place}
-use Rattle.plain_table.specs.Shows.{SpaceShows, Shows, IsHeader, IsHeaderIn, IsScanned, is_black}
+use Rattle.plain_table.specs.Shows.{Shows, IsHeader, IsHeaderIn, IsScanned, is_black}
 use Rattle.plain_table.proofs.WordPlaces.{header-apart-field, entry_place-from}
+use Rattle.word_laws.proofs.CommittedSpaces.{SpaceShows-same}
+use Rattle.plain_table.specs.Sound.{IsSound}
 use Rattle.sweeper.specs.Shading.{header_of, Shades}
 
 -- the three headers: white, shaded, and shaded and scanned
@@ -53,23 +55,7 @@ module _ (words : List ℕ) (s : Table) (c : Cycle) (shows : Shows words s) (is 
     ]
   ]
 
--- a space whose words are the same
-pub SpaceShows-same : (s : Table) (p : Space) (entry other : ℕ → ℕ) (list listed committed : ℕ) → ((i : ℕ) → other i ≡ entry i) → listed ≡ list →
-    SpaceShows s p entry list committed → SpaceShows s p other listed committed
-SpaceShows-same s p entry other list listed committed same same_list h = record {
-  segments = h.segments;
-  within = h.within;
-  used = h.used;
-  null = same 0 ∙ h.null;
-  cells = λ i cell stands. let there = h.cells i cell stands in (there.0, same i ∙ there.1, there.2);
-  evacuated = λ i number there. same i ∙ h.evacuated i number there;
-  free = λ i later less unused. same i ∙ h.free i later less unused;
-  empty = λ i is. let there = h.empty i is in (there.0, there.1, same i ∙ there.2);
-  closed = λ i past less. same i ∙ h.closed i past less;
-  list = same_list ∙ h.list;
-}
-
-module _ (old now list listed : List ℕ) (len end : ℕ) (held : ℕ → Type 0) (sh : Shades old now list listed len end held) (s : Table) (c : Cycle) (is : s.cycle ≡ Some c)
+module _ (old now list listed : List ℕ) (len end : ℕ) (held : ℕ → Type 0) (sh : Shades old now list listed len end held) (s : Table) (c : Cycle) (is : s.cycle ≡ Some c) (sound : IsSound s)
     (many : length list ≡ s.sizes.objects) (shows : Shows old s) where
   low : (place : ℕ) → place < 32 → slice_index now place ≡ slice_index old place
   low place below = sh.rest place (λ o few e. omega (arith, e, below))
@@ -102,12 +88,12 @@ module _ (old now list listed : List ℕ) (len end : ℕ) (held : ℕ → Type 0
     fields = λ f few. sh.rest (field_place f) (λ m less e. header-apart-field m f (sym e)) ∙ shows.fields f few;
     external = (
       shows.external.0,
-      SpaceShows-same s External (λ i. slice_index old (entry_place s.sizes External i)) (λ i. slice_index now (entry_place s.sizes External i)) (slice_index old 0) (slice_index now 0) shows.external.0
-          (entries External) (low 0 (omega arith)) shows.external.1,
+      SpaceShows-same s External sound.used (λ i. slice_index old (entry_place s.sizes External i)) (λ i. slice_index now (entry_place s.sizes External i)) (slice_index old 0) (slice_index now 0) shows.external.0
+          (λ i below. entries External i) (low 0 (omega arith)) shows.external.1,
     );
     trusted = (
       shows.trusted.0,
-      SpaceShows-same s Trusted (λ i. slice_index old (entry_place s.sizes Trusted i)) (λ i. slice_index now (entry_place s.sizes Trusted i)) (slice_index old 2) (slice_index now 2) shows.trusted.0
-          (entries Trusted) (low 2 (omega arith)) shows.trusted.1,
+      SpaceShows-same s Trusted sound.used (λ i. slice_index old (entry_place s.sizes Trusted i)) (λ i. slice_index now (entry_place s.sizes Trusted i)) (slice_index old 2) (slice_index now 2) shows.trusted.0
+          (λ i below. entries Trusted i) (low 2 (omega arith)) shows.trusted.1,
     );
   }

@@ -11,13 +11,11 @@ use Rattle.plain_table.specs.History.{after}
 use Rattle.plain_table.specs.Shows.{Image, PendingCell, IsPending, ImageShows, IsCovered, IsCoveredIn, IsLawful}
 use Rattle.plain_table.specs.Sound.{IsSound}
 use Rattle.plain_table.proofs.Options.{IfSome-is}
-use Rattle.table_laws.proofs.Soundness.{events-sound}
-use Rattle.table_laws.proofs.Steadiness.{events-steady}
 use Rattle.entry_word.specs.declared.image.Shape.{Shape}
 use Rattle.sweeper.specs.Late.{IsLateStart, IsLateEnd, IsLateFrom, LateMarks}
 use Rattle.entry_word.specs.Image.{sizes_of}
 use Rattle.sweeper.specs.Whole.{IsSmallShape}
-use Rattle.sweeper.proofs.Calm.{IsCalm, IsKeptBy, calm-after, kept-after}
+use Rattle.table_laws.proofs.PauseKeeps.{IsCalm, IsKeptBy, calm-after, kept-after}
 use Rattle.sweeper.proofs.SweptImages.{AreSmall-shape}
 
 module _ (shape : Shape) (words vars : List ℕ) (pending : List (Option PendingCell)) (small : IsSmallShape shape) where
@@ -36,7 +34,7 @@ module _ (shape : Shape) (words vars : List ℕ) (pending : List (Option Pending
     calm = calm-after e.events s e.acts
 
     kept : IsKeptBy s c (after s e.events)
-    kept = kept-after events-steady events-sound e.events s c h is e.acts e.run.legal
+    kept = kept-after e.events s c h is e.acts e.run.legal
 
     pending-calm : (found : Option ℕ) (p : Option PendingCell) → IsPending s found p → IsPending (after s e.events) found p
     pending-calm None p was = was

@@ -1,12 +1,11 @@
 -- Late marking from its beginning to its end.
-use Rattle.std.proofs.Common.{◌≡◌, ◌≢◌, ◌+◌, ◌*◌, ◌/◌, ◌%◌, ◌<◌, ◌≤◌, ◌==◌, ℕ, zero, suc, Bool, true, false, not, List, [], ◌∷◌, length, slice_index, Option, Some, None, IsTrue, IfSome, refl, sym, ap, subst, ◌∙◌, inl, inr, arith, eq-eqb, ne_eqb}
-use Rattle.std.specs.Prelude.{nat_le, ◌||◌, if◌then◌else◌}
+use Rattle.std.proofs.Common.{◌≡◌, ◌≢◌, ◌+◌, ◌*◌, ◌/◌, ◌%◌, ◌<◌, ◌≤◌, ℕ, true, List, [], length, slice_index, Option, Some, None, IsTrue, IfSome, refl, sym, ap, subst, ◌∙◌, inl, inr, arith}
+use Rattle.std.specs.Prelude.{nat_le, ◌||◌}
 use Rattle.std.specs.List.{Contains}
 use Rattle.std.proofs.lemmas.Bool.{or_cases, leb-true}
 use Rattle.std.proofs.lemmas.List.Elements.{All-nil, Contains-get_or, at_from_Contains}
 use Rattle.plain_table.specs.declared.events.Event.{Event}
 use Rattle.plain_table.specs.Reachable.{IsRoot, By_global, By_variable}
-use Rattle.plain_table.specs.Area.{count_below}
 use Rattle.plain_table.specs.Cycle.{Cycle, IsOld}
 use Rattle.plain_table.specs.Table.{Table, Sizes}
 use Rattle.plain_table.specs.Words.{object_word}
@@ -15,52 +14,17 @@ use Rattle.plain_table.specs.Scans.{Rest, Ends}
 use Rattle.plain_table.specs.Shows.{IsShaded, IsCoveredIn, is_black}
 use Rattle.plain_table.specs.Sweeps.{IsDue, Was_root, Was_linked, Is_root, Is_referred}
 use Rattle.plain_table.proofs.CycleParts.{CycleSound-is}
-use Rattle.plain_table.proofs.FreeLists.{count_below-less}
 use Rattle.plain_table.proofs.Options.{IsSomeAnd-by}
-use Rattle.table_laws.proofs.Soundness.{events-sound}
-use Rattle.table_laws.proofs.Steadiness.{events-steady}
 use Rattle.sweeper.specs.Late.{AreOwed, AreHandedOver, IsLateStart, IsLateEnd, IsListedFirst, NothingOwed}
 use Rattle.sweeper.specs.Marking.{IsMarking}
-use Rattle.sweeper.specs.Pause.{IsPauseAct}
-use Rattle.sweeper.specs.Shading.{header_of, is_white, white_in, named_at, Shades}
+use Rattle.table_laws.specs.Pauses.{IsPauseAct}
+use Rattle.sweeper.specs.Shading.{header_of, white_in, named_at, Shades}
 use Rattle.sweeper.proofs.Begun.{object_word-is}
-use Rattle.sweeper.proofs.Calm.{IsCalm, IsKeptBy, IsDue-calm, calm-after, kept-after}
+use Rattle.table_laws.proofs.PauseKeeps.{IsCalm, IsCalm-sym, IsKeptBy, IsDue-calm, calm-after, kept-after}
 use Rattle.sweeper.proofs.FieldVisits.{IsOld-steady}
 use Rattle.sweeper.proofs.HeaderReads.{header-cases}
 use Rattle.sweeper.proofs.MarkSteps.{IsOwed, marking-shaded}
-
--- a list of different members of a set is no longer than the set
-without : (ℕ → Bool) → ℕ → ℕ → Bool
-without set x k = if k == x then false else set k
-
-without-here : (set : ℕ → Bool) (x : ℕ) → without set x x ≡ false
-unfolding without
-without-here set x = ap (λ (b : Bool). if b then false else set x) (eq-eqb x x refl)
-
-without-there : (set : ℕ → Bool) (x k : ℕ) → (k ≡ x → ⊥) → without set x k ≡ set k
-unfolding without
-without-there set x k apart = ap (λ (b : Bool). if b then false else set k) (ne_eqb k x apart)
-
-pub count-members : (xs : List ℕ) (set : ℕ → Bool) (n : ℕ) → ((j : ℕ) → j < length xs → (slice_index xs j < n) × (set (slice_index xs j) ≡ true)) →
-    ((i j : ℕ) → i < j → j < length xs → slice_index xs i ≢ slice_index xs j) → length xs ≤ count_below set n
-count-members [] set n are differ = omega arith
-count-members (x ∷ xs) set n are differ =
-    let first : (x < n) × (set x ≡ true) = are 0 (omega arith) in
-    let fewer : count_below set n ≡ count_below (without set x) n + 1 = count_below-less set (without set x) n x first.0 first.1 (without-here set x) (λ k apart. without-there set x k (λ e. apart (sym e))) in
-    let rest = count-members xs (without set x) n
-    (λ j less.
-    let is = are (suc j) (omega (arith, less)) in
-    (is.0, without-there set x (slice_index xs j) (λ e. differ 0 (suc j) (omega arith) (omega (arith, less)) (sym e)) ∙ is.1))
-    (λ i j order less. differ (suc i) (suc j) (omega (arith, order)) (omega (arith, less))) in
-    omega (arith, fewer, rest)
-
-count-both : (set : ℕ → Bool) (n : ℕ) → count_below set n + count_below (λ k. not (set k)) n ≡ n
-count-both set zero = omega arith
-count-both set (suc n) = let before = count-both set n in by (set n) before
-  where
-    by : (b : Bool) → count_below set n + count_below (λ k. not (set k)) n ≡ n → count_below set n + (if b then 1 else 0) + (count_below (λ k. not (set k)) n + (if not b then 1 else 0)) ≡ suc n
-    by true before = omega (arith, before)
-    by false before = omega (arith, before)
+use Rattle.sweeper.proofs.OwedRoom.{OwedObjectsLeaveRoom-holds}
 
 index_of_member : (xs : List ℕ) (o : ℕ) → Contains xs o → (j : ℕ) × (j < length xs) × (slice_index xs j ≡ o)
 index_of_member xs o there =
@@ -90,12 +54,7 @@ module _ (words vars shaded : List ℕ) (z : Sizes) (s : Table) (c : Cycle) (sta
 
   -- there is room for these objects and all white ones
   pub late-room : length shaded + white_in words s.sizes.objects ≤ s.sizes.objects
-  late-room =
-      let members = count-members shaded (λ k. not (is_white words k)) s.sizes.objects
-      (λ j less.
-      let is = member j less in
-      (omega (arith, is.0, few), ap not (ne_eqb (header_of words (slice_index shaded j)) 0 (λ e. omega (arith, e, is.1))))) owed.differ in
-      omega (arith, members, count-both (is_white words) s.sizes.objects)
+  late-room = OwedObjectsLeaveRoom-holds words shaded s.sizes.objects owed (omega (arith, count-is, few))
 
   -- the marking begins
   pub marking-starts : (linked list : List ℕ) → length list ≡ s.sizes.objects → IsListedFirst list shaded → ((o : ℕ) → Contains shaded o → IsDue s c linked o) →
@@ -212,7 +171,7 @@ module _ (words vars shaded : List ℕ) (z : Sizes) (s : Table) (c : Cycle) (sta
       calm = calm-after m.events s m.acts
 
       kept : IsKeptBy s c (after s m.events)
-      kept = kept-after events-steady events-sound m.events s c m.sound m.cycle m.acts m.run.legal
+      kept = kept-after m.events s c m.sound m.cycle m.acts m.run.legal
 
       -- a made object that is not white is scanned
       scanned-of : (o : ℕ) → o < s.count → header_of now o ≢ 0 → (header_of now o ≡ 3) × (is_black (after s m.events) kept.cycle o ≡ true)
@@ -285,22 +244,9 @@ module _ (words vars shaded : List ℕ) (z : Sizes) (s : Table) (c : Cycle) (sta
             let is = m.covered.references o k q (omega (arith, before.0, few)) (ap (λ w. w / 2 % 2) black.0) there in
             (sound.2, λ e. omega (arith, e, is))
 
-        back : IsCalm (after s m.events) s
-        back = record {
-          sizes = sym calm.sizes;
-          cells = sym calm.cells;
-          words = sym calm.words;
-          bound = sym calm.bound;
-          ticket = sym calm.ticket;
-          refs = sym calm.refs;
-          globals = sym calm.globals;
-          vars = sym calm.vars;
-          count = sym calm.count;
-        }
-
         complete : (o : ℕ) → IsDue (after s m.events) kept.cycle linked o → IsTrue (kept.cycle.scans o || kept.cycle.born o)
         complete o due_after =
-            let is = due-shaded o (IsDue-calm (after s m.events) s kept.cycle c linked o back (sym kept.steady.globals) (sym kept.steady.vars) due_after) in
+            let is = due-shaded o (IsDue-calm (after s m.events) s kept.cycle c linked o (IsCalm-sym s (after s m.events) calm) (sym kept.steady.globals) (sym kept.steady.vars) due_after) in
             let black = scanned-of o is.0 is.1 in
             elim (or_cases (kept.cycle.scans o || kept.cycle.born o) (nat_le (after s m.events).count o) black.1) [
               | inl is_so ↦ is_so

@@ -1,6 +1,8 @@
 pub mod Counts
 pub mod PassSteps
+pub mod PassLoops
 pub mod SpaceSweeps
+pub mod GreatestMark
 pub mod AfterPass
 pub mod Still
 pub mod MoveSteps
@@ -14,13 +16,8 @@ pub mod UsedIndexes
 pub mod HeldRoots
 pub mod Begun
 pub mod ShadeSteps
-pub mod Calm
-pub mod Runs
-pub mod PauseMoves
 pub mod Visits
 pub mod ScanRuns
-pub mod NoRoom
-pub mod Covers
 pub mod MoveRuns
 pub mod HeaderReads
 pub mod FieldVisits
@@ -28,6 +25,7 @@ pub mod VisitedWords
 pub mod MarkSteps
 pub mod ScanRoom
 pub mod NextFits
+pub mod OwedRoom
 pub mod LateSteps
 pub mod LateImages
 pub mod ValidShapes

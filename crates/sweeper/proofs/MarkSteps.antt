@@ -1,5 +1,5 @@
 -- Late marking step by step: white objects become shaded, and a shaded object is scanned.
-use Rattle.std.proofs.Common.{◌≡◌, ◌≢◌, ◌⊎◌, ◌+◌, ◌*◌, ◌/◌, ◌%◌, ◌<◌, ◌≤◌, ℕ, true, false, List, [], ◌∷◌, ◌++◌, length, slice_index, Option, Some, IsTrue, refl, sym, ap, subst, ◌∙◌, inl, inr, arith, get_or-set_same, get_or-set_other}
+use Rattle.std.proofs.Common.{◌≡◌, ◌≢◌, ◌⊎◌, ◌+◌, ◌*◌, ◌/◌, ◌%◌, ◌<◌, ◌≤◌, ℕ, true, false, List, [], ◌∷◌, ◌++◌, length, slice_index, Option, Some, None, IsTrue, refl, sym, ap, subst, ◌∙◌, inl, inr, arith, get_or-set_same, get_or-set_other, IfSome}
 use Rattle.std.specs.Prelude.{nat_le, ◌||◌}
 use Rattle.std.proofs.lemmas.Bool.{cases_lt, or_left, or_right, or_parts}
 use Rattle.std.proofs.lemmas.Bool.Decides.{eqb_tells}
@@ -17,18 +17,22 @@ use Rattle.plain_table.specs.Shows.{IsShaded, IsScanned, IsCoveredIn, is_black}
 use Rattle.plain_table.specs.Sweeps.{meeting, IsDue, Is_referred}
 use Rattle.plain_table.proofs.CycleParts.{CycleSound-is}
 use Rattle.plain_table.proofs.Options.{IsSomeAnd-by}
-use Rattle.table_laws.proofs.Soundness.{events-sound}
-use Rattle.table_laws.proofs.Steadiness.{events-steady}
 use Rattle.sweeper.specs.Marking.{all_visited, object_scanned, IsObjectScanned, IsQueue, IsMarking}
-use Rattle.sweeper.specs.Pause.{IsRun, IsPauseAct, scans_in}
+use Rattle.word_laws.specs.Runs.{IsRun}
+use Rattle.table_laws.specs.Pauses.{IsPauseAct, scans_in}
 use Rattle.sweeper.specs.Shading.{header_of, named_at, Shades}
 use Rattle.sweeper.proofs.Begun.{object_word-is}
-use Rattle.sweeper.proofs.Calm.{IsCalm, IsKeptBy, IsDue-calm, calm-after, kept-after, pause-visits, scans_in-append, scans_in-visits}
-use Rattle.sweeper.proofs.Covers.{IsCoveredIn-header}
+use Rattle.table_laws.proofs.PauseKeeps.{IsCalm, IsKeptBy, IsDue-calm, calm-after, kept-after}
+use Rattle.table_laws.proofs.PauseActs.{pause-visits, scans_in-append, scans_in-visits}
+use Rattle.word_laws.specs.CoverLaws.{IsClear}
+use Rattle.word_laws.proofs.CoverSteps.{IsStep-same}
+use Rattle.word_laws.proofs.CoveredWords.{ScannedWordsStayCovered-step}
+use Rattle.plain_table.proofs.Options.{IfSome-is}
 use Rattle.sweeper.proofs.FieldVisits.{IsOld-steady, AreVisited, AreVisited-all, visits-run}
 use Rattle.sweeper.proofs.HeaderReads.{header-cases, header-unscanned, header-black, Shows-shaded}
-use Rattle.sweeper.proofs.Runs.{IsRun-join}
-use Rattle.sweeper.proofs.ScanRuns.{IsPartly, AreFieldsOf-all, AreSmall-calm, fields_of, object-run}
+use Rattle.word_laws.proofs.Runs.{IsRun-join}
+use Rattle.plain_table.proofs.ObjectFields.{AreFieldsOf-three, fields_of}
+use Rattle.sweeper.proofs.ScanRuns.{IsPartly, AreSmall-calm, object-run}
 use Rattle.sweeper.proofs.VisitedWords.{all_visited-low}
 
 -- what is known of each object that becomes shaded
@@ -41,7 +45,7 @@ module _ (linked old words mid list listed : List ℕ) (next len end : ℕ) (hel
   calm_first = calm-after m.events s m.acts
 
   kept_first : IsKeptBy s c (after s m.events)
-  kept_first = kept-after events-steady events-sound m.events s c m.sound m.cycle m.acts m.run.legal
+  kept_first = kept-after m.events s c m.sound m.cycle m.acts m.run.legal
 
   in-list : (o : ℕ) → o < s.sizes.objects → o < length list
   in-list o few = omega (arith, few, m.many)
@@ -137,7 +141,7 @@ module _ (linked old words mid list listed : List ℕ) (next len end : ℕ) (hel
     run = record {
       legal = m.run.legal;
       own = m.run.own;
-      shows = Shows-shaded words mid list listed len end held sh (after s m.events) kept_first.cycle kept_first.is (m.many ∙ ap (λ (z : Sizes). z.objects) (sym calm_first.sizes)) m.run.shows;
+      shows = Shows-shaded words mid list listed len end held sh (after s m.events) kept_first.cycle kept_first.is kept_first.sound (m.many ∙ ap (λ (z : Sizes). z.objects) (sym calm_first.sizes)) m.run.shows;
       scans = m.run.scans;
     };
     acts = m.acts;
@@ -207,7 +211,7 @@ module _ (linked old words now list listed : List ℕ) (next len end : ℕ) (s :
   calm = calm-after m1.events s m1.acts
 
   kept : IsKeptBy s c (after s m1.events)
-  kept = kept-after events-steady events-sound m1.events s c m1.sound m1.cycle m1.acts m1.run.legal
+  kept = kept-after m1.events s c m1.sound m1.cycle m1.acts m1.run.legal
 
   few_after : slice_index list next < (after s m1.events).sizes.objects
   few_after = subst (λ (y : Sizes). slice_index list next < y.objects) (sym calm.sizes) few
@@ -267,7 +271,7 @@ module _ (linked old words now list listed : List ℕ) (next len end : ℕ) (s :
       (all_visited mid z (slice_index list next)) few_after (IsOld-steady c kept.cycle (slice_index list next) kept.steady older)
       (IsSomeAnd-by (after s m1.events).cycle kept.cycle (λ d. IsDue (after s m1.events) d linked (slice_index list next)) kept.is
       (IsDue-calm s (after s m1.events) c kept.cycle linked (slice_index list next) calm kept.steady.globals kept.steady.vars (m.due next (omega arith) less)))
-      (AreFieldsOf-all (slice_index list next)) (AreVisited-all (slice_index list next)) visits unscanned
+      (AreFieldsOf-three (slice_index list next)) (AreVisited-all (slice_index list next)) visits unscanned
 
   -- the headers after the scan
   inside_all : 32 + 8 * slice_index list next < length (all_visited mid z (slice_index list next))
@@ -295,11 +299,15 @@ module _ (linked old words now list listed : List ℕ) (next len end : ℕ) (s :
 
   covered : IsCoveredIn (object_scanned mid z (slice_index list next)) s c
   covered =
-      IsCoveredIn-header (all_visited mid z (slice_index list next)) (slice_index list next) true inside_all s c c covered_visited (λ p is. is)
-      (λ is_so k r there.
-      let sound = m.sound.objects.references (slice_index list next) k r there in
-      ap (λ w. w % 2) (low r (omega (arith, sound.2, m.sound.objects.few))) ∙ references-shaded k r there)
-      (λ none. absurd (cc none))
+      IfSome-is s.cycle (IsCoveredIn (object_scanned mid z (slice_index list next)) s) c m.cycle
+      (ScannedWordsStayCovered-step (all_visited mid z (slice_index list next)) s s (slice_index list next) (IsStep-same s m.sound) (λ o k. refl) inside_all (λ k. clear k (s.refs (slice_index list next) k) refl)
+      (subst (λ (cycle : Option Cycle). IfSome cycle (IsCoveredIn (all_visited mid z (slice_index list next)) s)) (sym m.cycle) covered_visited))
+    where
+      clear : (k : ℕ) (found : Option ℕ) → s.refs (slice_index list next) k ≡ found → IsClear (all_visited mid z (slice_index list next)) found
+      clear k None none = tt
+      clear k (Some r) there =
+          let sound = m.sound.objects.references (slice_index list next) k r there in
+          ap (λ w. w % 2) (low r (omega (arith, sound.2, m.sound.objects.few))) ∙ references-shaded k r there
 
   made-few : (q : ℕ) → q < s.count → q < s.sizes.objects
   made-few q is = omega (arith, is, m.sound.objects.few)

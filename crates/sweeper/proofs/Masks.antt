@@ -1,32 +1,25 @@
 -- Masks of lists of words.
-use Rattle.std.proofs.Common.{◌≡◌, ℕ, zero, suc, ◌+◌, ◌*◌, ◌/◌, ◌%◌, ◌^◌, ◌<◌, ◌≤◌, ◌==◌, Bool, true, false, not, List, [], ◌∷◌, ◌++◌, map, take, drop, length, get_or, cond, eqb, refl, sym, ap, ◌∙◌, subst, arith, bit_and, bit_or, drop-drop}
+use Rattle.std.proofs.Common.{◌≡◌, ℕ, zero, suc, ◌+◌, ◌*◌, ◌/◌, ◌%◌, ◌^◌, ◌<◌, ◌≤◌, ◌==◌, Bool, true, false, not, List, [], ◌∷◌, ◌++◌, map, take, drop, length, get_or, cond, eqb, eq-eqb, ne_eqb, refl, sym, ap, ◌∙◌, subst, arith, bit_and, bit_or, drop-drop}
 use lib.Lanes.{mask_l, chunk}
 use Rattle.std.specs.Int.{bit_at}
 use Rattle.std.proofs.lemmas.Nat.Bits.{and_pow, shr_and_one}
-use Rattle.std.proofs.lemmas.Nat.{or_shifted, or_comm, pow-add}
+use Rattle.std.proofs.lemmas.Nat.{or_shifted, or_comm, pow-add, pow_pos}
 use Rattle.std.proofs.lemmas.List.{get_or-map, map-append, length-map, length-take-le}
 use Rattle.std.proofs.lemmas.Simd.{mask_l-lt, length-chunk, bit_mask_l}
 use Rattle.std.proofs.Math.Nat.{pow-succ', mod-eq_of_lt, mul-lt-mul_of_pos_right}
 use Rattle.std.proofs.Math.Pow.{pow_mono}
 use Rattle.std.proofs.Math.Seq.{take-add, take-length}
 use Rattle.std.specs.Simd.{first_chunks}
-use Rattle.sweeper.specs.Bits.{is_marked, bit}
+use Rattle.sweeper.specs.Bits.{bit}
 
-pub one_bit : (b : ℕ) → b < 2 → not (eqb (b * 2 ^ 62) 0) ≡ (b == 1)
-one_bit zero l = refl
-one_bit (suc zero) l = refl
-one_bit (suc (suc n)) l = absurd (omega arith)
-
-pub tested : (x : ℕ) → not (eqb (bit_and x (2 ^ 62)) 0) ≡ is_marked x
-tested x = ap (λ n. not (eqb n 0)) (and_pow x 62) ∙ one_bit (x / 2 ^ 62 % 2) (omega arith)
-
-pub tested_58 : (x : ℕ) → not (eqb (bit_and x (2 ^ 58)) 0) ≡ bit x 58
-tested_58 x = ap (λ n. not (eqb n 0)) (and_pow x 58) ∙ one_58 (x / 2 ^ 58 % 2) (omega arith)
+-- the test of one bit
+pub tested : (k x : ℕ) → not (eqb (bit_and x (2 ^ k)) 0) ≡ bit x k
+tested k x = ap (λ n. not (eqb n 0)) (and_pow x k) ∙ one (x / 2 ^ k % 2) (omega arith)
   where
-    one_58 : (b : ℕ) → b < 2 → not (eqb (b * 2 ^ 58) 0) ≡ (b == 1)
-    one_58 zero l = refl
-    one_58 (suc zero) l = refl
-    one_58 (suc (suc n)) l = absurd (omega arith)
+    one : (b : ℕ) → b < 2 → not (eqb (b * 2 ^ k) 0) ≡ (b == 1)
+    one zero l = ap not (eq-eqb (0 * 2 ^ k) 0 (omega arith))
+    one (suc zero) l = let some = pow_pos k in ap not (ne_eqb (1 * 2 ^ k) 0 (λ e. omega (arith, some, e)))
+    one (suc (suc n)) l = absurd (omega arith)
 
 pub doubled : (a p q : ℕ) → q ≡ 2 * p → a * q ≡ 2 * (a * p)
 doubled a p q e = grind (arith, e)

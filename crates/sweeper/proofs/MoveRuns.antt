@@ -3,7 +3,7 @@ use Rattle.std.proofs.Common.{◌≡◌, ◌≢◌, ◌⊎◌, ◌+◌, ◌-◌,
 use Rattle.std.specs.Prelude.{is_some, nat_le, nat_lt, ◌&&◌, if◌then◌else◌}
 use Rattle.std.proofs.lemmas.Bool.{cases_Bool, both_ways, and_from, and_left, and_right, and_parts, cond-true, cond-false, ltb-true, ltb-false}
 use Rattle.std.proofs.lemmas.List.Elements.{All-nil, All-cons}
-use Rattle.std.proofs.lemmas.Option.{none-some, same_Some}
+use Rattle.std.proofs.lemmas.Option.{same_Some}
 use Rattle.plain_table.specs.declared.events.Act.TheVariants.{Below, Evac, Abort}
 use Rattle.plain_table.specs.declared.events.Cell.{Cell}
 use Rattle.plain_table.specs.declared.events.Event.{Event}
@@ -13,10 +13,10 @@ use Rattle.plain_table.specs.declared.events.Field.TheVariants as field
 use Rattle.plain_table.specs.declared.reports.Reply.TheVariants as reply
 use Rattle.plain_table.specs.Index.{index_of}
 use Rattle.plain_table.specs.Places.{object_of}
-use Rattle.plain_table.specs.Cycle.{Cycle, IsOld, is_from, is_in_area, moves_from, with_entry, with_abort, evacuated_in, aborted_in}
+use Rattle.plain_table.specs.Cycle.{Cycle, IsOld, start_in, is_from, is_in_area, moves_from, with_entry, with_abort, evacuated_in, aborted_in}
 use Rattle.plain_table.specs.Table.{Table, Sizes, limit_of, least_free}
 use Rattle.plain_table.specs.Words.{free_word, next_free}
-use Rattle.plain_table.specs.Rows.{free_below}
+use Rattle.plain_table.specs.Rows.{with_taken, free_below}
 use Rattle.plain_table.specs.History.{next}
 use Rattle.plain_table.specs.Shapes.{event}
 use Rattle.plain_table.specs.Scans.{NeedNotMove, IsInArea}
@@ -31,20 +31,17 @@ use Rattle.word_laws.proofs.EntryKinds.{cell-kind-at, no_cell-kind-at}
 use Rattle.word_laws.proofs.FreelistReads.{FreelistsTell-shown}
 use Rattle.word_laws.specs.Kinds.{is_cell_word}
 use Rattle.sweeper.specs.Moves.{external_base}
-use Rattle.sweeper.specs.Pause.{IsVisitAct}
+use Rattle.table_laws.specs.Pauses.{IsVisitAct}
 use Rattle.sweeper.specs.Small.{AreSmall}
 use Rattle.sweeper.specs.Visits.{entered, entry_taken, moved_by, moved_out}
 use Rattle.sweeper.specs.Whole.{IsShown}
-use Rattle.sweeper.proofs.NoRoom.{full-is}
-use Rattle.sweeper.proofs.PauseMoves.{evacuate-runs, abort-runs, after_first, after_below}
+use Rattle.sweeper.proofs.MoveSteps.{moves_from-start}
+use Rattle.word_laws.proofs.FreeBelowReads.{FreeBelowRead-shown}
+use Rattle.word_laws.proofs.PauseRuns.{evacuate-runs, abort-runs, after_first, after_below}
+use Rattle.table_laws.proofs.Soundness.{IsSound-row}
 use Rattle.sweeper.proofs.Resolved.{moving-is}
-use Rattle.sweeper.proofs.Still.{cell-below}
+use Rattle.plain_table.proofs.SpacesShown.{cell-below}
 use Rattle.sweeper.proofs.Visits.{IsMoveRun, stays-run}
-
--- what a start from which cells move says
-moves-some : (aborted : Bool) (start : Option ℕ) (first : ℕ) → (if aborted then None else start) ≡ Some first → start ≡ Some first
-moves-some true start first is = absurd (none-some first is)
-moves-some false start first is = is
 
 module _ (linked : List ℕ) (s : Table) (c : Cycle) (h : IsSound s) (is : s.cycle ≡ Some c) (small : AreSmall s) (words : List ℕ) (shows : Shows words s)
     (o number : ℕ) (fields : List Field) (old : IsOld c (object_of (field.External number))) (w : ℕ) where
@@ -78,13 +75,13 @@ module _ (linked : List ℕ) (s : Table) (c : Cycle) (h : IsSound s) (is : s.cyc
 
   module _ (start : ℕ) (moves : moves_from c ≡ Some start) where
     starts : c.start ≡ Some start
-    starts = moves-some c.aborted c.start start moves
+    starts = moves_from-start c start moves
 
     -- a cell at or above the start passes the test
     tested : nat_le start i ≡ true → (cell : Cell) → s.cells External i ≡ Some cell → nat_le start i && nat_lt i (limit_of s External) && is_cell_word (entry i) ≡ true
     tested from cell stands =
         and_from (nat_le start i && nat_lt i (limit_of s External)) (is_cell_word (entry i))
-        (and_from (nat_le start i) (nat_lt i (limit_of s External)) from (lt-ltb i (limit_of s External) (cell-below s c h is small External i cell stands)))
+        (and_from (nat_le start i) (nat_lt i (limit_of s External)) from (lt-ltb i (limit_of s External) (cell-below s External i h (ap is_some stands))))
         (cell-kind-at s c h is small External entry (slice_index words 0) shows.external.0 shows.external.1 i cell stands).is_cell
 
     no-cell : nat_le start i ≡ true → nat_le start i && nat_lt i (limit_of s External) && is_cell_word (entry i) ≡ false → (found : Option Cell) → s.cells External i ≡ found → s.cells External i ≡ None
@@ -129,7 +126,8 @@ module _ (linked : List ℕ) (s : Table) (c : Cycle) (h : IsSound s) (is : s.cyc
       taken : 0 < len → head < start → Runs (entry_taken words (external_base s) head number)
       taken some below = record {
         events = first ∷ second ∷ [];
-        run = evacuate-runs linked s c h is small words shows o fields number w start head (slice_index words (external_base s + head) % 2 ^ 32) (len - 1) starts area old (omega (arith, some)) refl below link;
+        run = evacuate-runs linked s c h is small words shows o fields number w start head (slice_index words (external_base s + head) % 2 ^ 32) (len - 1) starts area old (omega (arith, some)) refl below link
+            (subst IsSound after-take (IsSound-row s meeting (Below start) h (ap start_in is ∙ starts)));
         acts = All-cons (λ (e : Event). IsVisitAct e.act) first (second ∷ []) tt (All-cons (λ (e : Event). IsVisitAct e.act) second [] tt (All-nil (λ (e : Event). IsVisitAct e.act)));
         placed = λ d eq there. inr (entered-in d eq);
       }
@@ -155,14 +153,17 @@ module _ (linked : List ℕ) (s : Table) (c : Cycle) (h : IsSound s) (is : s.cyc
               let most : next_free (s.used External) (head + 1) tells.0 ≤ tells.0 = next_free-le (s.used External) (head + 1) tells.0 in
               omega (arith, word, most, tells.1.within, few)
 
+          after-take : next s first ≡ with_taken s meeting External (Some head)
+          after-take =
+              after_first linked s c h is small words shows o fields number w start head (slice_index words (external_base s + head) % 2 ^ 32) (len - 1) starts area old (omega (arith, some)) refl below link
+
           entered-in : (d : Cycle) → (next (next s first) second).cycle ≡ Some d → IsTrue (d.visited number)
           entered-in d eq =
-              let before : (next s first).cycle ≡ Some c =
-              ap (λ (t : Table). t.cycle) (after_first linked s c h is small words shows o fields number w start head (slice_index words (external_base s + head) % 2 ^ 32) (len - 1) starts area old (omega (arith, some)) refl below link) ∙ is in
+              let before : (next s first).cycle ≡ Some c = ap (λ (t : Table). t.cycle) after-take ∙ is in
               let now : with_entry head number c ≡ d = same_Some (with_entry head number c) d (sym (ap (λ (cycle : Option Cycle). evacuated_in cycle head number) before) ∙ eq) in
               subst (λ (d : Cycle). IsTrue (d.visited number)) now (put_at-same c.visited number true)
 
-      aborted : (len ≡ 0) ⊎ ((len ≢ 0) × (start ≤ head)) → Runs (slice_set words 1 (start + 2 ^ 32))
+      aborted : (len ≡ 0) ⊎ (start ≤ head) → Runs (slice_set words 1 (start + 2 ^ 32))
       aborted full = record {
         events = first ∷ second ∷ [];
         run = abort-runs linked s c h is small words shows o fields number w start starts area none;
@@ -177,7 +178,7 @@ module _ (linked : List ℕ) (s : Table) (c : Cycle) (h : IsSound s) (is : s.cyc
           second = event meeting Abort reply.Ok
 
           none : free_below s start ≡ None
-          none = full-is words s c h is small shows start starts full
+          none = (FreeBelowRead-shown words s start h small shows (ap start_in is ∙ starts)).none full
 
           aborted-in : (d : Cycle) → (next (next s first) second).cycle ≡ Some d → is_from (moves_from d) i ≡ false
           aborted-in d eq =
@@ -188,7 +189,7 @@ module _ (linked : List ℕ) (s : Table) (c : Cycle) (h : IsSound s) (is : s.cyc
       entered-run : Runs (entered words (external_base s) start number)
       entered-run = by (cases_Bool (nat_lt 0 len)) (cases_Bool (nat_lt head start))
         where
-          no_room : nat_lt 0 len && nat_lt head start ≡ false → (len ≡ 0) ⊎ ((len ≢ 0) × (start ≤ head)) → Runs (entered words (external_base s) start number)
+          no_room : nat_lt 0 len && nat_lt head start ≡ false → (len ≡ 0) ⊎ (start ≤ head) → Runs (entered words (external_base s) start number)
           no_room fails full =
               subst Runs (sym (cond-false (nat_lt 0 len && nat_lt head start) (entry_taken words (external_base s) head number) (slice_set words 1 (start + 2 ^ 32)) fails)) (aborted full)
 
@@ -197,8 +198,7 @@ module _ (linked : List ℕ) (s : Table) (c : Cycle) (h : IsSound s) (is : s.cyc
               subst Runs (sym (cond-true (nat_lt 0 len && nat_lt head start) (entry_taken words (external_base s) head number) (slice_set words 1 (start + 2 ^ 32)) (and_from (nat_lt 0 len) (nat_lt head start) some below)))
               (taken (ltb-true 0 len some) (ltb-true head start below))
           by (inl some) (inr past) =
-              let more : 0 < len = ltb-true 0 len some in
-              no_room (and_right (nat_lt 0 len) (nat_lt head start) past) (inr (λ none. omega (arith, none, more), ltb-false head start past))
+              no_room (and_right (nat_lt 0 len) (nat_lt head start) past) (inr (ltb-false head start past))
           by (inr none) _ = let zero : len ≤ 0 = ltb-false 0 len none in no_room (and_left (nat_lt 0 len) (nat_lt head start) none) (inl (omega (arith, zero)))
 
     moved-some : Runs (moved_by (Some start) words (external_base s) (limit_of s External) number i)

@@ -20,8 +20,9 @@ use Rattle.plain_table.specs.Sound.{IsSound, entries_in}
 use Rattle.plain_table.proofs.Options.{IsSomeAnd-is, IsSome-value, is_some-option_map}
 use Rattle.plain_table.proofs.CycleParts.{CycleSound-is}
 use Rattle.plain_table.proofs.WordPlaces.{field_place-below}
+use Rattle.plain_table.proofs.Rewrites.{rewritten-some, rewritten-none}
 use Rattle.plain_table.proofs.FreeLists.{count_below-same, count_below-less}
-use Rattle.table_laws.proofs.FinishMoves.{target-is, target-some}
+use Rattle.table_laws.proofs.FinishMoves.{target-is, target-names, target-some}
 use Rattle.sweeper.specs.declared.moves.Plan.{Plan}
 use Rattle.sweeper.specs.declared.moves.Plan.TheVariants.{Skip, Move, Follow}
 use Rattle.word_laws.specs.Kinds.{is_marked_word, is_evacuation_word, is_cell_word}
@@ -30,7 +31,7 @@ use Rattle.word_laws.specs.Kinds.{IsKind}
 use Rattle.word_laws.proofs.WordKinds.{evacuation-kind}
 use Rattle.sweeper.specs.Small.{AreSmall}
 use Rattle.word_laws.proofs.EntryKinds.{cell-kind-at, no_cell-kind-at}
-use Rattle.sweeper.proofs.Still.{cell-below}
+use Rattle.plain_table.proofs.SpacesShown.{cell-below}
 
 -- a word that is no evacuation entry's forwards nothing
 no_forwarding : (w : ℕ) → is_evacuation_word w ≡ false → is_forwarding_word w ≡ false
@@ -74,23 +75,6 @@ module _ (s : Table) (c : Cycle) (h : IsSound s) (is : s.cycle ≡ Some c) (smal
       let made : object_of (field.External n) < s.count = sound.traced.made (object_of (field.External n)) (inl area.1) in
       let used = h.used.entries e (ap is_some (ap (λ o. entries_in o e) is ∙ there)) in
       record { there = there; few = omega (arith, made, h.objects.few); seen = area.2; below = h.used.below External e used.0 }
-
-  -- a target of an index is that of the field of its entry
-  target-names : (i e n : ℕ) → c.evac e ≡ Some n → target c s.words i ≡ Some e → i ≡ named n
-  target-names i e n there to =
-      let t = target-is c s.words i e to in
-      let same : t.number ≡ n = same_Some t.number n (sym t.entry ∙ there) in
-      sym t.names ∙ ap named same
-
-  rewritten-some : (n t : ℕ) → c.visited n ≡ true → target c s.words (named n) ≡ Some t → rewritten c s.words (field.External n) ≡ word_of t
-  rewritten-some n t seen to =
-      cond-true (c.visited n) (option_map_or word_of (target c s.words (named n)) (s.words (field.External n))) (s.words (field.External n)) seen
-      ∙ ap (λ o. option_map_or word_of o (s.words (field.External n))) to
-
-  rewritten-none : (n : ℕ) → c.visited n ≡ true → target c s.words (named n) ≡ None → rewritten c s.words (field.External n) ≡ s.words (field.External n)
-  rewritten-none n seen none =
-      cond-true (c.visited n) (option_map_or word_of (target c s.words (named n)) (s.words (field.External n))) (s.words (field.External n)) seen
-      ∙ ap (λ o. option_map_or word_of o (s.words (field.External n))) none
 
   pub target-start : (i d : ℕ) → target c s.words i ≡ Some d → (d < start) × (start ≤ i)
   target-start i d to =
@@ -154,7 +138,7 @@ module _ (s : Table) (c : Cycle) (h : IsSound s) (is : s.cycle ≡ Some c) (smal
       followed = λ d k from there. elim (eqb_tells k n) [
         | inl same ↦
             subst (λ k. slice_index (slice_set now (place_of n) (word_of t)) (place_of k) ≡ rewritten c s.words (field.External k)) (sym same.1)
-            (here ∙ sym (rewritten-some n t entry.seen to))
+            (here ∙ sym (rewritten-some c s.words n entry.seen t to))
         | inr apart ↦ elim (eqb_tells d e) [
           | inl same ↦ absurd (apart.1 (same_Some k n (sym there ∙ ap c.evac same.1 ∙ entry.there)))
           | inr off ↦ field_at k apart.1 ∙ before.followed d k (omega (arith, from, next, off.1)) there
@@ -185,7 +169,7 @@ module _ (s : Table) (c : Cycle) (h : IsSound s) (is : s.cycle ≡ Some c) (smal
 
         none : (i : ℕ) → target c s.words i ≡ Some e → ⊥
         none i to_e =
-            let names : i ≡ named n = target-names i e n entry.there to_e in
+            let names : i ≡ named n = target-names c s.words i e n entry.there to_e in
             let same : t ≡ e = same_Some t e (sym to ∙ ap (target c s.words) (sym names) ∙ to_e) in
             omega (arith, same, more)
 
@@ -222,7 +206,7 @@ module _ (s : Table) (c : Cycle) (h : IsSound s) (is : s.cycle ≡ Some c) (smal
       followed = λ d k from there. elim (eqb_tells k n) [
         | inl same ↦
             ap (λ k. slice_index (moved_to n i) (place_of k)) same.1 ∙ at_field
-            ∙ sym (rewritten-some n e entry.seen (ap (target c s.words) (sym names) ∙ to))
+            ∙ sym (rewritten-some c s.words n entry.seen e (ap (target c s.words) (sym names) ∙ to))
             ∙ ap (λ k. rewritten c s.words (field.External k)) (sym same.1)
         | inr apart ↦ elim (eqb_tells d e) [
           | inl same ↦ absurd (apart.1 (same_Some k n (sym there ∙ ap c.evac same.1 ∙ entry.there)))
@@ -290,7 +274,7 @@ module _ (s : Table) (c : Cycle) (h : IsSound s) (is : s.cycle ≡ Some c) (smal
         outside place out k few eq = elim out [ inl less ↦ omega (arith, less, eq) | inr more ↦ omega (arith, more, eq, few) ]
 
         same_source : (j : ℕ) → target c s.words j ≡ Some e → j ≡ i
-        same_source j to_e = target-names j e n entry.there to_e ∙ sym names
+        same_source j to_e = target-names c s.words j e n entry.there to_e ∙ sym names
 
         filled : (d j : ℕ) → e ≤ d → target c s.words j ≡ Some d → slice_index (moved_to n i) (base + d) ≡ slice_index old (base + j)
         filled d j from to_d = elim (eqb_tells d e) [
@@ -402,11 +386,11 @@ module _ (s : Table) (c : Cycle) (h : IsSound s) (is : s.cycle ≡ Some c) (smal
             (plan_by (slice_index now (base + slice_index now (place_of n) / 65536)) (place_of n) (slice_index now (place_of n) / 65536)) Skip
             (and_left (nat_le start (slice_index now (place_of n) / 65536)) (nat_lt (slice_index now (place_of n) / 65536) limit) (lt-leb start (slice_index now (place_of n) / 65536) (omega (arith, value, below_start)))))
             (skip-step
-            (λ i to_e. let names = target-names i e n entry.there to_e in
+            (λ i to_e. let names = target-names c s.words i e n entry.there to_e in
             let same : r.0 ≡ e = same_Some r.0 e (sym r.2 ∙ ap (target c s.words) (sym names) ∙ to_e) in
             omega (arith, same, r.1, next))
             (λ k there. let same : n ≡ k = same_Some n k (sym entry.there ∙ there) in
-            subst (λ k. slice_index now (place_of k) ≡ rewritten c s.words (field.External k)) same (r.4 ∙ sym (rewritten-some n r.0 entry.seen r.2))))
+            subst (λ k. slice_index now (place_of k) ≡ rewritten c s.words (field.External k)) same (r.4 ∙ sym (rewritten-some c s.words n entry.seen r.0 r.2))))
       ]
         where
           index_of-word_of : (t : ℕ) → 65536 * t / 65536 ≡ t
@@ -436,10 +420,10 @@ module _ (s : Table) (c : Cycle) (h : IsSound s) (is : s.cycle ≡ Some c) (smal
           stays_as : slice_index now (place_of n) ≡ s.words (field.External n) → target c s.words (named n) ≡ None → (k : ℕ) → c.evac e ≡ Some k → slice_index now (place_of k) ≡ rewritten c s.words (field.External k)
           stays_as was none k there =
               let same : n ≡ k = same_Some n k (sym entry.there ∙ there) in
-              subst (λ k. slice_index now (place_of k) ≡ rewritten c s.words (field.External k)) same (was ∙ sym (rewritten-none n entry.seen none))
+              subst (λ k. slice_index now (place_of k) ≡ rewritten c s.words (field.External k)) same (was ∙ sym (rewritten-none c s.words n entry.seen none))
 
           nothing_moves : target c s.words (named n) ≡ None → (j : ℕ) → target c s.words j ≡ Some e → ⊥
-          nothing_moves none j to_e = none-some e (sym none ∙ ap (target c s.words) (sym (target-names j e n entry.there to_e)) ∙ to_e)
+          nothing_moves none j to_e = none-some e (sym none ∙ ap (target c s.words) (sym (target-names c s.words j e n entry.there to_e)) ∙ to_e)
 
           cell_of : (d : ℕ) → target c s.words (named n) ≡ Some d → (cell : Cell) × (s.cells External (named n) ≡ Some cell)
           cell_of d to =
@@ -458,7 +442,7 @@ module _ (s : Table) (c : Cycle) (h : IsSound s) (is : s.cycle ≡ Some c) (smal
                   let cell = cell_of d eq in
                   absurd (both_ways (nat_le start (named n) && nat_lt (named n) limit) out
                   (and_from (nat_le start (named n)) (nat_lt (named n) limit) (le-leb start (named n) (target-start (named n) d eq).1)
-                  (lt-ltb (named n) limit (cell-below s c h is small External (named n) cell.0 cell.1))))
+                  (lt-ltb (named n) limit (cell-below s External (named n) h (ap is_some cell.1)))))
 
               none : target c s.words (named n) ≡ None
               none = by (target c s.words (named n)) refl

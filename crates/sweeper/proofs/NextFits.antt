@@ -4,11 +4,9 @@ use Rattle.plain_table.specs.Cycle.{Cycle}
 use Rattle.plain_table.specs.Table.{Table, Sizes}
 use Rattle.plain_table.specs.Words.{object_word, words_in_all}
 use Rattle.plain_table.specs.History.{after}
-use Rattle.table_laws.proofs.Soundness.{events-sound}
-use Rattle.table_laws.proofs.Steadiness.{events-steady}
 use Rattle.sweeper.specs.Marking.{IsMarking}
 use Rattle.sweeper.specs.Shading.{header_of}
-use Rattle.sweeper.proofs.Calm.{IsCalm, IsKeptBy, calm-after, kept-after}
+use Rattle.table_laws.proofs.PauseKeeps.{IsCalm, IsKeptBy, calm-after, kept-after}
 
 pub record IsNextFit (words list : List ℕ) (next : ℕ) (z : Sizes) : Type 0 where
   pub whole : length words ≡ words_in_all z
@@ -28,7 +26,7 @@ IsNextFit-marking linked old words list next end s c z m same less = record {
     calm = calm-after m.events s m.acts
 
     kept : IsKeptBy s c (after s m.events)
-    kept = kept-after events-steady events-sound m.events s c m.sound m.cycle m.acts m.run.legal
+    kept = kept-after m.events s c m.sound m.cycle m.acts m.run.legal
 
     grey : (slice_index list next < s.count) × (header_of words (slice_index list next) ≡ 1)
     grey = m.queue.each next (omega arith) less

@@ -1,9 +1,6 @@
 -- The scan of one object at the pause: its visits, one after the other, and then its scan.
-use Rattle.std.proofs.Common.{◌≡◌, ◌⊎◌, ◌*◌, ◌<◌, ◌≤◌, ℕ, true, false, List, [], ◌∷◌, ◌++◌, slice_set, Option, Some, refl, arith, ◌+◌, sym, ap, subst, ◌∙◌, inl, inr}
-use Rattle.std.specs.List.{All, Contains}
-use Rattle.std.proofs.lemmas.Bool.Decides.{eqb_tells}
-use Rattle.std.proofs.lemmas.List.Elements.{Contains-get_or}
-use Rattle.plain_table.specs.declared.events.Field.TheVariants as field
+use Rattle.std.proofs.Common.{◌≡◌, ◌⊎◌, ◌<◌, ℕ, true, false, List, [], ◌∷◌, ◌++◌, slice_set, Option, Some, sym, ap, subst, ◌∙◌, inl, inr}
+use Rattle.std.specs.List.{All}
 use Rattle.std.proofs.lemmas.List.Elements.{All-nil, All-append}
 use Rattle.std.proofs.lemmas.Option.{same_Some}
 use Rattle.plain_table.specs.declared.events.Act.TheVariants.{Scan}
@@ -12,9 +9,7 @@ use Rattle.plain_table.specs.declared.events.Field.{Field}
 use Rattle.plain_table.specs.declared.reports.Reply.TheVariants as reply
 use Rattle.plain_table.specs.Places.{object_of}
 use Rattle.plain_table.specs.Cycle.{Cycle, IsOld}
-use Rattle.plain_table.specs.Table.{Table, Sizes, limit_of}
-use Rattle.plain_table.specs.declared.events.Space.{Space}
-use Rattle.plain_table.specs.declared.events.Space.TheVariants.{External, Trusted}
+use Rattle.plain_table.specs.Table.{Table, Sizes}
 use Rattle.plain_table.specs.Words.{header_place, header_word}
 use Rattle.plain_table.specs.Rows.{IsSafe, AreSafe}
 use Rattle.plain_table.specs.History.{after}
@@ -25,14 +20,14 @@ use Rattle.plain_table.specs.Shows.{Shows}
 use Rattle.plain_table.specs.Sound.{IsSound}
 use Rattle.plain_table.specs.Sweeps.{meeting, MayScanAtMeet}
 use Rattle.plain_table.proofs.CallsMade.{after-append}
-use Rattle.table_laws.proofs.Steadiness.{events-steady}
-use Rattle.table_laws.proofs.Soundness.{events-sound}
 use Rattle.sweeper.specs.Small.{AreSmall}
-use Rattle.sweeper.specs.Pause.{IsRun}
-use Rattle.sweeper.specs.Pause.{IsVisitAct}
-use Rattle.sweeper.proofs.Calm.{pause-visits, IsCalm, calm-after, kept-after}
-use Rattle.sweeper.proofs.Runs.{IsRun-join}
-use Rattle.sweeper.proofs.PauseMoves.{scan-runs}
+use Rattle.word_laws.specs.Small as sizes
+use Rattle.word_laws.specs.Runs.{IsRun}
+use Rattle.table_laws.specs.Pauses.{IsVisitAct}
+use Rattle.table_laws.proofs.PauseActs.{pause-visits}
+use Rattle.table_laws.proofs.PauseKeeps.{IsCalm, calm-after, kept-after}
+use Rattle.word_laws.proofs.Runs.{IsRun-join}
+use Rattle.word_laws.proofs.PauseRuns.{scan-runs}
 use Rattle.sweeper.proofs.Visits.{IsVisited}
 
 -- some fields of an object are visited, and those are safe
@@ -61,8 +56,8 @@ partly-more linked s c h is o all fields f Done mid now before visit =
       run = IsRun-join linked (Visit o all) (Visit o (f ∷ fields)) (Visit o fields) mid now s before.events visit.events before.run visit.run;
       acts = All-append (λ (e : Event). IsVisitAct e.act) before.events visit.events before.acts visit.acts;
       safe = λ g done d eq id bound.
-          let kept = kept-after events-steady events-sound before.events s c h is (pause-visits before.events before.acts) before.run.legal in
-          let later = kept-after events-steady events-sound visit.events mid_table kept.cycle kept.sound kept.is (pause-visits visit.events visit.acts) visit.run.legal in
+          let kept = kept-after before.events s c h is (pause-visits before.events before.acts) before.run.legal in
+          let later = kept-after visit.events mid_table kept.cycle kept.sound kept.is (pause-visits visit.events visit.acts) visit.run.legal in
           let at_end : (after mid_table visit.events).cycle ≡ Some d = ap (λ (t : Table). t.cycle) (sym (after-append s before.events visit.events)) ∙ eq in
           let same : later.cycle ≡ d = same_Some later.cycle d (sym later.is ∙ at_end) in
           let still : mid_table.bound g ≡ Some id = ap (λ (b : Field → Option ℕ). b g) calm.bound ∙ bound in
@@ -76,20 +71,7 @@ partly-more linked s c h is o all fields f Done mid now before visit =
     }
 
 pub AreSmall-calm : (s t : Table) → IsCalm s t → AreSmall s → AreSmall t
-AreSmall-calm s t calm small = record {
-  seg = subst (λ (z : Sizes). 1 ≤ z.seg) (sym calm.sizes) small.seg;
-  few = few;
-  some = some;
-  objects = subst (λ (z : Sizes). z.objects ≤ 16384) (sym calm.sizes) small.objects;
-}
-  where
-    few : (p : Space) → limit_of t p ≤ 65536
-    few External = subst (λ (z : Sizes). z.seg * z.ext ≤ 65536) (sym calm.sizes) (small.few External)
-    few Trusted = subst (λ (z : Sizes). z.seg * z.tru ≤ 65536) (sym calm.sizes) (small.few Trusted)
-
-    some : (p : Space) → 1 ≤ limit_of t p
-    some External = subst (λ (z : Sizes). 1 ≤ z.seg * z.ext) (sym calm.sizes) (small.some External)
-    some Trusted = subst (λ (z : Sizes). 1 ≤ z.seg * z.tru) (sym calm.sizes) (small.some Trusted)
+AreSmall-calm s t calm small = subst sizes.AreSmall (sym calm.sizes) small
 
 -- a scan that begins is one from rest
 begun : (linked : List ℕ) (s : Table) (o : ℕ) (all : List Field) (now : List ℕ) (es : List Event) → MayScanAtMeet linked s o → AreFieldsOf o all →
@@ -107,7 +89,7 @@ pub object-run : (linked : List ℕ) (s : Table) (c : Cycle) → IsSound s → s
     (visits : IsPartly linked s o all [] Done mid) → ((d : Cycle) → (after s visits.events).cycle ≡ Some d → d.scans o ≡ false) →
     IsRun linked Rest Rest (slice_set mid (header_place o) (header_word true true)) s (visits.events ++ event meeting (Scan o) reply.Ok ∷ [])
 object-run linked s c h is small o all Done mid within old may fields complete visits unscanned =
-    let kept = kept-after events-steady events-sound visits.events s c h is (pause-visits visits.events visits.acts) visits.run.legal in
+    let kept = kept-after visits.events s c h is (pause-visits visits.events visits.acts) visits.run.legal in
     let t = after s visits.events in
     let calm = calm-after visits.events s (pause-visits visits.events visits.acts) in
     let old_after : IsOld kept.cycle o =
@@ -119,19 +101,3 @@ object-run linked s c h is small o all Done mid within old may fields complete v
     let last = scan-runs linked t kept.cycle kept.sound kept.is small_after mid visits.run.shows o [] within_after old_after (unscanned kept.cycle kept.is) safe in
     begun linked s o all (slice_set mid (header_place o) (header_word true true)) (visits.events ++ event meeting (Scan o) reply.Ok ∷ []) may fields
     (IsRun-join linked (Visit o all) (Visit o []) Rest mid (slice_set mid (header_place o) (header_word true true)) s visits.events (event meeting (Scan o) reply.Ok ∷ []) visits.run last)
-
--- the fields of an object in their order
-abbrev pub fields_of : ℕ → List Field
-fields_of o = field.External (2 * o) ∷ field.External (2 * o + 1) ∷ field.Trusted o ∷ []
-
-pub AreFieldsOf-all : (o : ℕ) → AreFieldsOf o (fields_of o)
-AreFieldsOf-all o = (refl, there)
-  where
-    there : (f : Field) → object_of f ≡ o → Contains (fields_of o) f
-    there (field.External n) is = elim (eqb_tells n (2 * o)) [
-      | inl e ↦ subst (λ k. Contains (fields_of o) (field.External k)) (sym e.1) (Contains-get_or (fields_of o) 0 (field.Trusted o) (omega arith))
-      | inr e ↦
-          let odd : 2 * o + 1 ≡ n = omega (arith, is, e.1) in
-          subst (λ k. Contains (fields_of o) (field.External k)) odd (Contains-get_or (fields_of o) 1 (field.Trusted o) (omega arith))
-    ]
-    there (field.Trusted n) is = subst (λ k. Contains (fields_of o) (field.Trusted k)) (sym is) (Contains-get_or (fields_of o) 2 (field.Trusted o) (omega arith))

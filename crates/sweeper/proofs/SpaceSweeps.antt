@@ -4,7 +4,7 @@ use Rattle.std.specs.Prelude.{unwrap_or, not, nat_lt, nat_le}
 use Rattle.std.proofs.lemmas.Bool.{and_left, and_right}
 use Rattle.plain_table.specs.Area.{count_below, greatest_below, segments_in_use}
 use Rattle.plain_table.specs.Words.{freelist_word}
-use Rattle.plain_table.proofs.AreaStarts.{greatest_below-some, greatest_below-lt, segments-le}
+use Rattle.plain_table.proofs.AreaStarts.{greatest_below-some, segments-le}
 use Rattle.plain_table.proofs.Options.{IsSome-value}
 use Rattle.word_laws.specs.Kinds.{is_marked_word, is_cell_word, is_evacuation_word}
 use Rattle.sweeper.specs.Pass.{Tally, stays, used_after, free_after, freed_after, moved_after, entries_from, greatest_after, IsPassAt, IsTallyAt, one_if}
@@ -17,12 +17,6 @@ module _ (entry : ℕ → ℕ) (from limit : ℕ) (some : 1 ≤ limit) where
   greatest_after-is =
       let found = IsSome-value (greatest_below (used_after entry from) limit) (greatest_below-some (used_after entry from) limit 0 some refl) in
       (found.0, found.1, ap (λ o. unwrap_or o 0) found.1)
-
-  pub greatest_after-lt : greatest_after entry from limit < limit
-  greatest_after-lt =
-      let g = greatest_after-is in
-      let below : g.0 < limit = greatest_below-lt (used_after entry from) limit g.0 g.1 in
-      omega (arith, below, g.2)
 
 pub committed-le : (entry : ℕ → ℕ) (from seg ext : ℕ) → 1 ≤ seg * ext → 1 ≤ seg →
     (1 + greatest_after entry from (seg * ext) / seg) * seg ≤ seg * ext

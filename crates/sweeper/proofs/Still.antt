@@ -7,13 +7,13 @@ use Rattle.std.proofs.lemmas.Option.{none-some}
 use Rattle.plain_table.specs.declared.events.Cell.{Cell}
 use Rattle.plain_table.specs.declared.events.Space.{Space}
 use Rattle.plain_table.specs.declared.events.Space.TheVariants.{External, Trusted}
-use Rattle.std.specs.Option.{option_map}
 use Rattle.plain_table.specs.Cycle.{Cycle, is_from, moves_from}
 use Rattle.plain_table.specs.Table.{Table, limit_of}
 use Rattle.plain_table.specs.Finish.{swept, place}
 use Rattle.plain_table.specs.Words.{cell_word}
 use Rattle.plain_table.specs.Shows.{SpaceShows}
 use Rattle.plain_table.specs.Sound.{IsSound}
+use Rattle.plain_table.proofs.SpacesShown.{cell-below}
 use Rattle.table_laws.proofs.FinishMoves.{swept-from, swept-place, place-is, place-outside, target-is}
 use Rattle.word_laws.specs.Kinds.{is_marked_word}
 use Rattle.sweeper.specs.Pass.{stays}
@@ -22,9 +22,6 @@ use Rattle.sweeper.specs.Small.{AreSmall}
 use Rattle.word_laws.proofs.EntryKinds.{cell-at, cell-kind-at, no_cell-kind-at}
 
 module _ (s : Table) (c : Cycle) (h : IsSound s) (is : s.cycle ≡ Some c) (small : AreSmall s) (p : Space) where
-  pub cell-below : (i : ℕ) (cell : Cell) → s.cells p i ≡ Some cell → i < limit_of s p
-  cell-below i cell stands = h.used.below p i (h.used.cells p i (ap (λ found. is_some (option_map (λ (c : Cell). c.id) found)) stands)).0
-
   pub IsReady-still : (entry : ℕ → ℕ) (freelist committed : ℕ) → SpaceShows s p entry freelist committed → (p ≡ External → moves_from c ≡ None) → IsReady s c p entry (limit_of s p)
   IsReady-still entry freelist committed shows still = record { cells = cells; others = λ i none. others i none (s.cells p i) refl; null = shows.null }
     where
@@ -35,7 +32,7 @@ module _ (s : Table) (c : Cycle) (h : IsSound s) (is : s.cycle ≡ Some c) (smal
             | inl stay ↦
                 let stands : s.cells p i ≡ Some cell = ap (s.cells p) (sym stay.same) ∙ came.cell_is in
                 let marked : c.marks p i ≡ true = ap (c.marks p) (sym stay.same) ∙ stay.marked in
-                (cell-below i cell stands, cell-at s c h is small p entry freelist committed shows i cell stands ∙ ap (cell_word cell) marked)
+                (cell-below s p i h (ap is_some stands), cell-at s c h is small p entry freelist committed shows i cell stands ∙ ap (cell_word cell) marked)
             | inr moves ↦
                 let t = target-is c s.words came.index i moves.to in
                 absurd (none-some t.start (sym (still moves.external) ∙ t.moves))

@@ -17,7 +17,7 @@ use Rattle.table_laws.proofs.FinishMoves.{swept-place, swept-from, place-is}
 use Rattle.sweeper.specs.Small.{AreSmall}
 use Rattle.word_laws.specs.Kinds.{is_marked_word}
 use Rattle.word_laws.proofs.EntryKinds.{cell-kind-at}
-use Rattle.sweeper.proofs.Still.{cell-below}
+use Rattle.plain_table.proofs.SpacesShown.{cell-below}
 use Rattle.entry_word.specs.declared.image.Shape.{Shape}
 use Rattle.entry_word.specs.Image.{sizes_of}
 use Rattle.sweeper.specs.Whole.{IsSmallShape}
@@ -97,7 +97,7 @@ module _ (image : Image) (s : Table) (c : Cycle) (h : IsSound s) (is : s.cycle �
       marked-is : (cell : Cell) → s.cells Trusted i ≡ Some cell → test ≡ c.marks Trusted i
       marked-is cell stands =
           let kind = cell-kind-at s c h is small Trusted entry (slice_index image.words 2) shows.words.trusted.0 shows.words.trusted.1 i cell stands in
-          ap (λ (b : Bool). b && is_marked_word (entry i)) (lt-ltb i (limit_of s Trusted) (cell-below s c h is small Trusted i cell stands)) ∙ kind.is_marked
+          ap (λ (b : Bool). b && is_marked_word (entry i)) (lt-ltb i (limit_of s Trusted) (cell-below s Trusted i h (ap is_some stands))) ∙ kind.is_marked
 
       swept-is : (cell : Cell) → s.cells Trusted i ≡ Some cell → (marked : Bool) → c.marks Trusted i ≡ marked → swept s c Trusted i ≡ (if marked then Some cell else None)
       swept-is cell stands true marked = swept-place s c h is Trusted i i (cond-true (c.marks Trusted i) (Some i) None marked) ∙ stands

@@ -7,7 +7,7 @@ use Rattle.plain_table.specs.Table.{Sizes}
 use Rattle.plain_table.specs.Words.{evacuation_word, freelist_word, field_place}
 use Rattle.sweeper.specs.Marking.{external_visits, all_visited}
 use Rattle.word_laws.specs.Kinds.{is_cell_word}
-use Rattle.sweeper.specs.Pause.{marked_after, with_bit}
+use Rattle.word_laws.specs.Runs.{marked_after, with_bit}
 use Rattle.sweeper.specs.Visits.{entry_taken, entered, moved_by, visited}
 use Rattle.sweeper.specs.Whole.{moving_of}
 

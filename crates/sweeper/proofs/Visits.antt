@@ -25,13 +25,12 @@ use Rattle.plain_table.specs.Sound.{IsSound}
 use Rattle.plain_table.proofs.Options.{is_some-option_map}
 use Rattle.plain_table.proofs.CallsMade.{after-append}
 use Rattle.plain_table.proofs.CycleParts.{CycleSound-is}
-use Rattle.table_laws.proofs.Steadiness.{events-steady}
-use Rattle.table_laws.proofs.Soundness.{events-sound}
 use Rattle.sweeper.specs.Small.{AreSmall}
-use Rattle.sweeper.specs.Pause.{IsRun, base_of, marked_after}
-use Rattle.sweeper.specs.Pause.{IsVisitAct}
-use Rattle.sweeper.proofs.Calm.{pause-visits, calm-after, kept-after}
-use Rattle.sweeper.proofs.Runs.{IsRun-join, mark-runs}
+use Rattle.word_laws.specs.Runs.{IsRun, base_of, marked_after}
+use Rattle.table_laws.specs.Pauses.{IsVisitAct}
+use Rattle.table_laws.proofs.PauseActs.{mark-visits, pause-visits}
+use Rattle.table_laws.proofs.PauseKeeps.{calm-after, kept-after}
+use Rattle.word_laws.proofs.Runs.{IsRun-join, mark-runs}
 
 -- a field is visited: the run to the next field, and the field is safe where it is bound
 pub record IsVisited (linked : List ℕ) (s : Table) (o : ℕ) (f : Field) (fields : List Field) (now : List ℕ) : Type 0 where
@@ -71,9 +70,9 @@ visit-trusted linked s c h is small words shows o fields old =
     record {
       events = runs.0;
       run = runs.1;
-      acts = runs.2;
+      acts = mark-visits Trusted (index_of (s.words (field.Trusted o))) runs.0 runs.2;
       safe = λ d eq id bound.
-          safe-after linked s c h is small words shows o (field.Trusted o) fields refl old runs.0 runs.2 d
+          safe-after linked s c h is small words shows o (field.Trusted o) fields refl old runs.0 (mark-visits Trusted (index_of (s.words (field.Trusted o))) runs.0 runs.2) d
           (runs.3 (cell-there linked s c h is small words shows o (field.Trusted o) fields refl old id bound) d eq) tt id bound;
     }
 
@@ -91,15 +90,16 @@ pub visit-external : (linked : List ℕ) (s : Table) (c : Cycle) (h : IsSound s)
 visit-external linked s c h is small words shows o number fields now of old move =
     let f = field.External number in
     let runs = mark-runs linked s c h is small words shows o f fields of old in
-    let calm = calm-after runs.0 s (pause-visits runs.0 runs.2) in
-    let acts = All-append (λ (e : Event). IsVisitAct e.act) runs.0 move.events runs.2 move.acts in
+    let marks = mark-visits External (index_of (s.words f)) runs.0 runs.2 in
+    let calm = calm-after runs.0 s (pause-visits runs.0 marks) in
+    let acts = All-append (λ (e : Event). IsVisitAct e.act) runs.0 move.events marks move.acts in
     record {
       events = runs.0 ++ move.events;
       run = IsRun-join linked (Visit o (f ∷ fields)) (Move o fields number (s.words f)) (Visit o fields) (marked_after words (base_of s External) (limit_of s External) (index_of (s.words f))) now s runs.0 move.events runs.1 move.run;
       acts = acts;
       safe = λ d eq id bound.
-          let kept = kept-after events-steady events-sound runs.0 s c h is (pause-visits runs.0 runs.2) runs.1.legal in
-          let later = kept-after events-steady events-sound move.events (after s runs.0) kept.cycle kept.sound kept.is (pause-visits move.events move.acts) move.run.legal in
+          let kept = kept-after runs.0 s c h is (pause-visits runs.0 marks) runs.1.legal in
+          let later = kept-after move.events (after s runs.0) kept.cycle kept.sound kept.is (pause-visits move.events move.acts) move.run.legal in
           let at_end : (after (after s runs.0) move.events).cycle ≡ Some d = ap (λ (t : Table). t.cycle) (sym (after-append s runs.0 move.events)) ∙ eq in
           let same : later.cycle ≡ d = same_Some later.cycle d (sym later.is ∙ at_end) in
           let there = cell-there linked s c h is small words shows o f fields of old id bound in

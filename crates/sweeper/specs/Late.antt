@@ -1,5 +1,5 @@
 -- Late marking of an image: what is handed over to it, and what it leaves.
-use Rattle.std.specs.Prelude.{◌≡◌, ◌≢◌, ℕ, ◌+◌, ◌*◌, ◌<◌, ◌||◌, List, length, slice_index, Some, IsTrue}
+use Rattle.std.specs.Prelude.{◌≡◌, ◌≢◌, ℕ, ◌+◌, ◌*◌, ◌<◌, ◌≤◌, ◌||◌, List, length, slice_index, Some, IsTrue}
 use Rattle.std.specs.List.{All, Contains}
 use Rattle.plain_table.specs.declared.events.Event.{Event}
 use Rattle.plain_table.specs.Reachable.{IsRoot}
@@ -12,7 +12,9 @@ use Rattle.plain_table.specs.History.{IsLegalHistory, after}
 use Rattle.plain_table.specs.Shows.{Image, ImageShows, IsShaded, IsScanned, IsCovered, IsCoveredIn}
 use Rattle.plain_table.specs.Sound.{IsSound}
 use Rattle.plain_table.specs.Sweeps.{IsDue, IsPause, MayScanAtMeet, meeting}
-use Rattle.sweeper.specs.Pause.{IsRun, IsPauseAct, scans_in}
+use Rattle.word_laws.specs.Runs.{IsRun}
+use Rattle.table_laws.specs.Pauses.{IsPauseAct, scans_in}
+use Rattle.sweeper.specs.Shading.{white_in}
 use Rattle.sweeper.specs.Whole.{IsShown}
 
 -- the objects that are shaded and not scanned, each once
@@ -20,6 +22,11 @@ pub record AreOwed (words shaded : List ℕ) : Type 0 where
   pub listed : (o : ℕ) → o < slice_index words count_place → IsShaded words o → (IsScanned words o → ⊥) → Contains shaded o
   pub owed : (o : ℕ) → Contains shaded o → (o < slice_index words count_place) × IsShaded words o × (IsScanned words o → ⊥)
   pub differ : (i j : ℕ) → i < j → j < length shaded → slice_index shaded i ≢ slice_index shaded j
+
+-- a list of n objects has room for these objects and all white ones, where as many objects as there are fit it
+abbrev pub OwedObjectsLeaveRoom : Type 0
+OwedObjectsLeaveRoom =
+    (words shaded : List ℕ) (n : ℕ) → AreOwed words shaded → slice_index words count_place ≤ n → length shaded + white_in words n ≤ n
 
 -- the objects that are handed over are due in the cycle, its roots are shaded, and so are the objects that were linked in it
 pub record AreHandedOver (words shaded linked : List ℕ) (s : Table) (c : Cycle) : Type 0 where

@@ -11,7 +11,8 @@ use Rattle.plain_table.specs.Scans.{Rest}
 use Rattle.plain_table.specs.Shows.{IsCoveredIn}
 use Rattle.plain_table.specs.Sound.{IsSound}
 use Rattle.plain_table.specs.Sweeps.{IsDue}
-use Rattle.sweeper.specs.Pause.{IsRun, IsPauseAct, marked_after, scans_in}
+use Rattle.word_laws.specs.Runs.{IsRun, marked_after}
+use Rattle.table_laws.specs.Pauses.{IsPauseAct, scans_in}
 use Rattle.sweeper.specs.Shading.{header_of, white_in, named_at, Shades}
 use Rattle.sweeper.specs.Small.{AreSmall}
 use Rattle.sweeper.specs.Visits.{visited}

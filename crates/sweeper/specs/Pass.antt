@@ -5,6 +5,7 @@ use Rattle.std.specs.Prelude.{◌≡◌, ◌⊎◌, ℕ, ◌+◌, ◌-◌, ◌^�
 use Rattle.plain_table.specs.Area.{count_below, greatest_below}
 use Rattle.plain_table.specs.Words.{free_word, no_access_word, next_free}
 use Rattle.word_laws.specs.Kinds.{is_cell_word, is_evacuation_word, is_marked_word}
+use Rattle.sweeper.specs.Bits.{bit}
 
 -- what stays in the last pass, and what is used after it
 abbrev pub stays : (ℕ → ℕ) → ℕ → ℕ → Bool
@@ -79,3 +80,7 @@ pub record IsFew (limit i : ℕ) (tally : Tally) : Type 0 where
 
 abbrev pub greatest_after : (ℕ → ℕ) → ℕ → ℕ → ℕ
 greatest_after entry from limit = unwrap_or (greatest_below (used_after entry from) limit) 0
+
+-- the marking bit of an entry below `from` tells whether it is marked
+abbrev pub MarksTell : (ℕ → ℕ) → (from limit : ℕ) → Type 0
+MarksTell entry from limit = (k : ℕ) → k < from → k < limit → bit (entry k) 62 ≡ is_marked_word (entry k)

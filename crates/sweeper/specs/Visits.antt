@@ -5,7 +5,7 @@ use Rattle.plain_table.specs.declared.events.Field.TheVariants as field
 use Rattle.plain_table.specs.Index.{index_of}
 use Rattle.plain_table.specs.Words.{evacuation_word, freelist_word, field_place}
 use Rattle.word_laws.specs.Kinds.{is_cell_word}
-use Rattle.sweeper.specs.Pause.{marked_after}
+use Rattle.word_laws.specs.Runs.{marked_after}
 use Rattle.sweeper.specs.Whole.{moving_of}
 
 abbrev pub entry_taken : List ℕ → (base head number : ℕ) → List ℕ

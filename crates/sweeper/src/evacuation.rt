@@ -2,7 +2,7 @@
 ghost use Rattle.std.specs.Prelude.{◌≡◌, ℕ, ◌+◌, ◌-◌, ◌*◌, ◌/◌, ◌%◌, ◌^◌, ◌<◌, ◌≤◌, length, slice_index, slice_set};
 ghost use Rattle.plain_table.specs.declared.events.Field.TheVariants as field;
 ghost use Rattle.plain_table.specs.Words.{field_place};
-ghost use Rattle.sweeper.specs.Pause.{marked_after};
+ghost use Rattle.word_laws.specs.Runs.{marked_after};
 ghost use Rattle.sweeper.specs.Visits.{entered, moved_out, visited};
 
 use crate::marks::mark;

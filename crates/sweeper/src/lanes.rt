@@ -1,7 +1,7 @@
 // Kernels over the entry words of a segment, eight lanes at a time.
 ghost use Rattle.std.specs.Prelude.{◌≡◌, ℕ, ◌+◌, ◌<◌, ◌≤◌, ◌^◌, ◌-◌, if◌then◌else◌, map, length, slice_index};
 ghost use Rattle.std.specs.Simd.Lanes.{mask_l, chunk, put_chunk};
-ghost use Rattle.sweeper.specs.Bits.{bit, is_cell_bits, is_marked, is_moved, without_mark};
+ghost use Rattle.sweeper.specs.Bits.{bit, is_cell_bits, without_mark};
 
 use std::simd::prelude::*;
 
@@ -11,22 +11,35 @@ const UPPER: u64 = 7 << 56;
 
 const TAG: u64 = 255 << 48;
 
-/// Which of eight words are marked.
-fn marked_in(lanes: &[u64; 8]) -> u64
-    ensures { result ≡ mask_l (map is_marked lanes.now) }
+/// Which of eight words have a bit.
+fn bits_in(lanes: &[u64; 8], place: u32) -> u64
+    requires { place < 64 }
+    ensures { result ≡ mask_l (map (λ w. bit w place) lanes.now) }
 {
-    (u64x8::from_array(*lanes) & u64x8::splat(MARK))
+    (u64x8::from_array(*lanes) & u64x8::splat(1 << place))
         .simd_ne(u64x8::splat(0))
         .to_bitmask()
 }
 
-/// Which of eight words are evacuation entries.
-fn moved_in(lanes: &[u64; 8]) -> u64
-    ensures { result ≡ mask_l (map is_moved lanes.now) }
+/// Which of at most 64 words have a bit.
+fn bit_mask(words: &[u64], place: u32) -> u64
+    requires many { length words.now ≤ 64 }
+    requires place { place < 64 }
+    ensures bits { (i : ℕ) → i < length words.now → bit result i ≡ bit (slice_index words.now i) place }
+    ensures past { result < 2 ^ length words.now }
 {
-    (u64x8::from_array(*lanes) & u64x8::splat(1 << 58))
-        .simd_ne(u64x8::splat(0))
-        .to_bitmask()
+    let (whole, rest) = words.as_chunks::<8>();
+    let mut mask = 0u64;
+    let mut at = 0u32;
+    for lanes in whole {
+        mask |= bits_in(lanes, place) << at;
+        at += 8;
+    }
+    for word in rest {
+        mask |= (*word >> place & 1) << at;
+        at += 1;
+    }
+    mask
 }
 
 /// Which of at most 64 words have bit 62.
@@ -35,18 +48,7 @@ pub fn mark_mask(words: &[u64]) -> u64
     ensures bits { (i : ℕ) → i < length words.now → bit result i ≡ bit (slice_index words.now i) 62 }
     ensures past { result < 2 ^ length words.now }
 {
-    let (whole, rest) = words.as_chunks::<8>();
-    let mut mask = 0u64;
-    let mut at = 0u32;
-    for lanes in whole {
-        mask |= marked_in(lanes) << at;
-        at += 8;
-    }
-    for word in rest {
-        mask |= (*word >> 62 & 1) << at;
-        at += 1;
-    }
-    mask
+    bit_mask(words, 62)
 }
 
 /// Which of at most 64 words have bit 58, as evacuation entries do.
@@ -55,18 +57,7 @@ pub fn evac_mask(words: &[u64]) -> u64
     ensures bits { (i : ℕ) → i < length words.now → bit result i ≡ bit (slice_index words.now i) 58 }
     ensures past { result < 2 ^ length words.now }
 {
-    let (whole, rest) = words.as_chunks::<8>();
-    let mut mask = 0u64;
-    let mut at = 0u32;
-    for lanes in whole {
-        mask |= moved_in(lanes) << at;
-        at += 8;
-    }
-    for word in rest {
-        mask |= (*word >> 58 & 1) << at;
-        at += 1;
-    }
-    mask
+    bit_mask(words, 58)
 }
 
 /// Which of eight words are cells.

@@ -4,7 +4,7 @@ ghost use Rattle.plain_table.specs.Shows.{IsLawful};
 ghost use Rattle.sweeper.specs.Begin.{HasRoom};
 ghost use Rattle.entry_word.specs.Image.{IsValidShape, image_of};
 ghost use Rattle.sweeper.specs.Images.{IsAllScanned};
-ghost use Rattle.sweeper.specs.Late.{AreOwed, IsListedFirst, IsLateFrom, LateMarks, LateSome, NothingOwed};
+ghost use Rattle.sweeper.specs.Late.{AreOwed, IsListedFirst, IsLateFrom, LateMarks, LateSome, NothingOwed, OwedObjectsLeaveRoom};
 ghost use Rattle.entry_word.specs.Image.{sizes_of};
 ghost use Rattle.sweeper.specs.Whole.{IsSmallShape};
 
@@ -75,3 +75,9 @@ pub fn late_mark(image: &mut Image, area: &mut Area, shaded: &[u32]) -> u32
         image.shape,
     )
 }
+
+/// A list of as many objects as the limit says has room for those that are shaded and not scanned and for all white ones, as
+/// `shade` asks.
+pub fn owed_objects_leave_room()
+    ensures { OwedObjectsLeaveRoom }
+{}

@@ -1,6 +1,6 @@
 // Marks at the pause.
 ghost use Rattle.std.specs.Prelude.{◌≡◌, ℕ, ◌+◌, ◌≤◌, ◌^◌, ◌<◌, length, slice_index, All};
-ghost use Rattle.sweeper.specs.Pause.{marked_after, with_bit};
+ghost use Rattle.word_laws.specs.Runs.{marked_after, with_bit};
 
 use crate::pass::{is_cell, is_marked};
 

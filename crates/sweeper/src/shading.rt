@@ -4,7 +4,7 @@ ghost use Rattle.sweeper.specs.Shading.{Shades, white_in, names, named_at};
 
 /// The object of a word, which is 0 for nothing and else the object's number plus 1, is shaded where it is white, and then
 /// stands at the end of the list, whose first `len` objects count; answers the new length. The list has room for all objects.
-pub(crate) fn shade(words: &mut [u64], list: &mut [u32], len: usize, word: u64) -> usize
+pub fn shade(words: &mut [u64], list: &mut [u32], len: usize, word: u64) -> usize
     requires inside { 32 + 8 * length list.old ≤ length words.old }
     requires few { length list.old ≤ 16384 }
     requires object { word ≤ length list.old }

@@ -4,7 +4,7 @@ use Rattle.std.proofs.Common.{◌≡◌, ◌≢◌, ◌⊎◌, ℕ, ◌<◌, ◌
 use Rattle.std.specs.Prelude.{if◌then◌else◌, is_some, unwrap_or, nat_lt, IsTrue, IsSome}
 use Rattle.std.specs.Option.{option_map, option_map_or, option_and_then}
 use Rattle.std.proofs.lemmas.Bool.{and_parts, and_from, and_left, cond-true, cond-false, both_ways, false_from_ne_true, lt-leb}
-use Rattle.std.proofs.lemmas.Option.{cond_some, option_and_then_some}
+use Rattle.std.proofs.lemmas.Option.{cond_some, option_and_then_some, same_Some}
 use Rattle.plain_table.specs.declared.events.Cell.{Cell}
 use Rattle.plain_table.specs.declared.events.Space.{Space}
 use Rattle.plain_table.specs.declared.events.Space.TheVariants.{External, Trusted}
@@ -80,6 +80,13 @@ module _ (c : Cycle) (words : Field → ℕ) where
         names = eqb-true (named words held.0) i held.2;
         greatest = found.greatest;
       }
+
+  -- an index with a target is the one that the field of the target's entry names
+  pub target-names : (i e number : ℕ) → c.evac e ≡ Some number → target c words i ≡ Some e → i ≡ named words number
+  target-names i e number there to =
+      let t = target-is i e to in
+      let same : t.number ≡ number = same_Some t.number number (sym t.entry ∙ there) in
+      sym t.names ∙ ap (named words) same
 
   -- an index outside the area has none
   pub target-outside : (i : ℕ) → is_from (moves_from c) i ≡ false → target c words i ≡ None

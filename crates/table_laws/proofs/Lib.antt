@@ -31,6 +31,8 @@ pub mod SafeStays
 pub mod RestStays
 pub mod FieldsStay
 pub mod Steadiness
+pub mod PauseActs
+pub mod PauseKeeps
 pub mod SoundHistories
 pub mod StoredValues
 pub mod Causes

@@ -1,4 +1,5 @@
 pub mod Steady
+pub mod Pauses
 pub mod Stored
 pub mod Causes
 pub mod Laws

@@ -23,3 +23,5 @@ pub mod FreeBelowReads
 pub mod WordKinds
 pub mod EntryKinds
 pub mod PhaseReads
+pub mod Runs
+pub mod PauseRuns

@@ -4,3 +4,4 @@ pub mod SegmentLaws
 pub mod CoverLaws
 pub mod ReadLaws
 pub mod Kinds
+pub mod Runs

@@ -3,7 +3,8 @@
 //! Each law is a function that does nothing and whose contract is the law: a caller may cite it. There is a law for each
 //! kind of word (`specs/WordLaws.antt`: of fields, entries, references and globals, the count, the area, headers and
 //! freelists); for a segment that is being committed (`SegmentLaws.antt`); for the marking invariant after a step
-//! (`CoverLaws.antt`); and for what is read in words (`ReadLaws.antt`, `Kinds.antt`).
+//! (`CoverLaws.antt`); and for what is read in words (`ReadLaws.antt`, `Kinds.antt`). `Runs.antt` defines what a run of
+//! events by the meeting leaves; the crates above cite lemmas about such runs.
 #![tactic(auto)]
 
 ghost use Rattle.word_laws.specs.CoverLaws.{CoveredWordsStay, ScannedWordsStayCovered, ShadedWordsStayCovered};

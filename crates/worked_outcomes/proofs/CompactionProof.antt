@@ -13,7 +13,8 @@ use Rattle.plain_table.specs.Sound.{IsSound}
 use Rattle.plain_table.specs.Belongs.{Belongs, HasTotals, whole}
 use Rattle.plain_table.proofs.CallsMade.{IsLegalHistory-append}
 use Rattle.worked_outcomes.specs.Compactions.{limits, script, parts, outcome_moving, filled, started, given_up, evacuated, finish, loaded}
-use Rattle.worked_outcomes.proofs.Phases.{numbers-by, own-by, one-mutator, fields_of, fields-are}
+use Rattle.plain_table.proofs.ObjectFields.{fields_of, AreFieldsOf-three}
+use Rattle.worked_outcomes.proofs.Phases.{numbers-by, own-by, one-mutator}
 use Rattle.worked_outcomes.proofs.Objects.{IsInRange-small, IsSound-history, finish-by, complete-by, scan-by}
 
 pub in_range : IsInRange limits
@@ -157,7 +158,7 @@ totals = record { live = refl; trusted = refl; objects = refl; sum = refl; puts 
 
 first-scans : Scans (MayScanAtMeet []) IsReadAtMeet meeting Rest first_pause given_up Rest
 first-scans =
-    Turn _ _ _ _ _ (Begins 0 (fields_of 0) (Is_root 0 (inr (0, 0, refl))) (fields-are 0))
+    Turn _ _ _ _ _ (Begins 0 (fields_of 0) (Is_root 0 (inr (0, 0, refl))) (AreFieldsOf-three 0))
     (Make _ _ _ _ _ _ refl (Marks 0 (external_field 0 0) (word_of 1) _ refl)
     (Turn _ _ _ _ _ (Stays _ _ _ _ (inl refl))
     (Make _ _ _ _ _ _ refl (Marks 0 (external_field 0 1) (word_of 4) _ refl)
@@ -169,7 +170,7 @@ first-scans =
 
 second-scans : Scans (MayScanAtMeet []) IsReadAtMeet meeting Rest second_pause evacuated Rest
 second-scans =
-    Turn _ _ _ _ _ (Begins 0 (fields_of 0) (Is_root 0 (inr (0, 0, refl))) (fields-are 0))
+    Turn _ _ _ _ _ (Begins 0 (fields_of 0) (Is_root 0 (inr (0, 0, refl))) (AreFieldsOf-three 0))
     (Make _ _ _ _ _ _ refl (Marks 0 (external_field 0 0) (word_of 1) _ refl)
     (Turn _ _ _ _ _ (Stays _ _ _ _ (inl refl))
     (Make _ _ _ _ _ _ refl (Marks 0 (external_field 0 1) (word_of 4) _ refl)

@@ -30,7 +30,8 @@ use Rattle.worked_outcomes.specs.WorkedLaws.{PausesScanWhatIsDue}
 use Rattle.worked_outcomes.proofs.ForcedCalls.{events-mine, legal-parts}
 use Rattle.worked_outcomes.proofs.SingleCalls.{Follows, First, single, none-later, none-left, first-phase, no-phase}
 use Rattle.worked_outcomes.proofs.ScansMay.{AllScanned, scanned-may}
-use Rattle.worked_outcomes.proofs.PauseKeeps.{Fixed, Keeps, fixed_of, along-keeps}
+use Rattle.table_laws.proofs.PauseKeeps.{Fixed, IsCalm, fixed_of}
+use Rattle.worked_outcomes.proofs.AlongPauses.{along-calm}
 use Rattle.worked_outcomes.proofs.NotDueProof.{pause, due-zero, belongs, legal-more}
 
 -- not a scan of the second object
@@ -70,13 +71,13 @@ emptied-forced replies es made legal =
     z.is ∙ a.is ∙ ap (λ (x : List Event). event 0 (Link (Ref 0 0) None) reply.Ok ∷ x) (none-later a)
 
 -- what may be scanned in the pause is the first object
-may-zero : (t : Table) → Keeps pause t → (o : ℕ) → MayScanAtMeet [] t o → o ≡ 0
-may-zero t keeps o may =
+may-zero : (t : Table) → IsCalm pause t → (o : ℕ) → MayScanAtMeet [] t o → o ≡ 0
+may-zero t calm o may =
     let found = IsSome-value t.cycle (IsSomeAnd-some t.cycle (λ c. IsDue t c [] o) may) in
-    let fixed : Some (fixed_of found.0) ≡ option_map fixed_of pause.cycle = ap (option_map fixed_of) (sym found.1) ∙ keeps.cycle in
+    let fixed : Some (fixed_of found.0) ≡ option_map fixed_of pause.cycle = ap (option_map fixed_of) (sym found.1) ∙ calm.cycle in
     let globals : found.0.globals ≡ pause.globals = ap (λ (f : Fixed). f.globals) (same_Some _ _ fixed) in
     let vars : found.0.vars ≡ pause.vars = ap (λ (f : Fixed). f.vars) (same_Some _ _ fixed) in
-    due-zero t found.0 globals vars keeps.globals keeps.vars keeps.refs o (IsSomeAnd-is t.cycle (λ c. IsDue t c [] o) found.0 found.1 may)
+    due-zero t found.0 globals vars calm.globals calm.vars calm.refs o (IsSomeAnd-is t.cycle (λ c. IsDue t c [] o) found.0 found.1 may)
 
 no-scans : (es : List Event) → All (λ (e : Event). e.by ≡ meeting) es → AllScanned (λ o. o ≡ 0) meeting es → All IsNoScan es
 no-scans [] own all k d within = absurd (omega arith)
@@ -87,7 +88,7 @@ no-scans-paused : (scans : List Event) → IsPause [] pause scans → All IsNoSc
 no-scans-paused scans is =
     no-scans scans is.own
     (scanned-may (MayScanAtMeet []) IsReadAtMeet meeting (λ o. o ≡ 0) Rest pause scans Rest is.scans
-    (along-keeps IsReadAtMeet meeting (MayScanAtMeet []) (λ t. (o : ℕ) → MayScanAtMeet [] t o → o ≡ 0) Rest pause scans Rest is.scans is.own may-zero) tt)
+    (along-calm IsReadAtMeet meeting (MayScanAtMeet []) (λ t. (o : ℕ) → MayScanAtMeet [] t o → o ≡ 0) Rest pause scans Rest is.scans is.own may-zero) tt)
 
 -- each meet of the script
 start-events : (links : List ℕ) (s : Table) (policy : Policy) (es : List Event) (r : MeetReport) →

@@ -4,7 +4,7 @@ pub mod TrustedProof
 pub mod MarkerProof
 pub mod CompactionProof
 pub mod ScansMay
-pub mod PauseKeeps
+pub mod AlongPauses
 pub mod ForcedCalls
 pub mod OneMove
 pub mod CallsNeeded

@@ -15,7 +15,8 @@ use Rattle.plain_table.specs.Sound.{IsSound}
 use Rattle.plain_table.specs.Belongs.{Belongs, HasTotals, IsScannedIn, whole, events_by}
 use Rattle.plain_table.proofs.CallsMade.{IsLegalHistory-append}
 use Rattle.worked_outcomes.specs.ConcurrentMarker.{limits, script, parts, outcome, before, concurrent, loaded}
-use Rattle.worked_outcomes.proofs.Phases.{numbers-by, one-mutator, one-marker, fields_of, fields-are, scans-nothing}
+use Rattle.plain_table.proofs.ObjectFields.{fields_of, AreFieldsOf-three}
+use Rattle.worked_outcomes.proofs.Phases.{numbers-by, one-mutator, one-marker, scans-nothing}
 use Rattle.table_laws.proofs.KeepsTraced.{IsReachable-made}
 use Rattle.worked_outcomes.proofs.Objects.{IsInRange-small, IsSound-history, IsLegalHistory-take, root-reachable, finish-by, complete-by, scan-by}
 
@@ -99,7 +100,7 @@ sound-start = IsSound-history limits (take 5 so_far) in_range (IsLegalHistory-ta
 marker-scans : Scans (λ t o. Unit {0}) IsReadBeside 8 Rest at_start concurrent Rest
 marker-scans =
     Others _ _ _ _ _ (λ e. absurd (omega (arith, e)))
-    (Turn _ _ _ _ _ (Begins 0 (fields_of 0) tt (fields-are 0))
+    (Turn _ _ _ _ _ (Begins 0 (fields_of 0) tt (AreFieldsOf-three 0))
     (Make _ _ _ _ _ _ refl (Marks 0 (external_field 0 0) (word_of 1) _ (inl refl))
     (Turn _ _ _ _ _ (Stays _ _ _ _ (inl refl))
     (Others _ _ _ _ _ (λ e. absurd (omega (arith, e)))

@@ -18,7 +18,8 @@ use Rattle.plain_table.specs.Belongs.{Belongs, whole}
 use Rattle.plain_table.proofs.CallsMade.{IsLegalHistory-append}
 use Rattle.table_laws.proofs.FinishLaws.{CanFinish-scanned}
 use Rattle.worked_outcomes.specs.NotDue.{limits, script, parts_scanning, due_scans, more_scans, linked, emptied, outcome}
-use Rattle.worked_outcomes.proofs.Phases.{numbers-by, own-by, one-mutator, fields_of, fields-are}
+use Rattle.plain_table.proofs.ObjectFields.{fields_of, AreFieldsOf-three}
+use Rattle.worked_outcomes.proofs.Phases.{numbers-by, own-by, one-mutator}
 use Rattle.worked_outcomes.proofs.Objects.{IsInRange-small, IsSound-history, IsLegalHistory-take, finish-by, scan-by}
 
 -- the table at the pause
@@ -162,7 +163,7 @@ belongs = record {
           record {
             own = own-by meeting due_scans refl;
             scans =
-                Turn _ _ _ _ _ (Begins 0 (fields_of 0) (Is_root 0 (inr (0, 0, refl))) (fields-are 0))
+                Turn _ _ _ _ _ (Begins 0 (fields_of 0) (Is_root 0 (inr (0, 0, refl))) (AreFieldsOf-three 0))
                 (Turn _ _ _ _ _ (Passes _ _ 0 _ refl refl)
                 (Turn _ _ _ _ _ (Stays _ _ _ _ (inl refl))
                 (Turn _ _ _ _ _ (Passes _ _ 0 _ refl refl)

@@ -1,6 +1,6 @@
 -- In a sound table reachable and due objects are made, and the fields of an object are three: so what is to hold of each of
 -- them is held to a few numbers.
-use Rattle.std.proofs.Common.{◌≡◌, ◌⊎◌, ℕ, zero, suc, ◌+◌, ◌*◌, ◌<◌, ◌≤◌, Bool, true, false, Option, List, [], ◌∷◌, Some, None, refl, arith, inl, inr, subst, sym, take}
+use Rattle.std.proofs.Common.{◌≡◌, ◌⊎◌, ℕ, zero, suc, ◌<◌, ◌≤◌, Bool, true, false, Option, List, [], ◌∷◌, Some, None, refl, arith, inl, inr, subst, sym, take}
 use Rattle.std.specs.Prelude.{IsSome, IsSomeAnd, IsTrue, ◌&&◌, ◌||◌, nat_lt}
 use Rattle.std.specs.List.{Contains}
 use Rattle.std.proofs.lemmas.Bool.{and_parts, or_cases}
@@ -24,7 +24,8 @@ use Rattle.plain_table.proofs.OpeningSound.{IsSound-opening}
 use Rattle.table_laws.proofs.Soundness.{events-sound}
 use Rattle.table_laws.proofs.SoundHistories.{histories-sound}
 use Rattle.table_laws.proofs.FinishLaws.{CanFinish-scanned}
-use Rattle.worked_outcomes.proofs.Phases.{field-of}
+use Rattle.plain_table.specs.Shapes.{external_field}
+use Rattle.plain_table.proofs.ObjectFields.{each_field}
 
 -- limits of one mutator and a few objects
 pub IsInRange-small : (ext objects markers : ℕ) → 1 ≤ ext → ext ≤ 2 → 1 ≤ objects → objects ≤ 2 → markers ≤ 1 →
@@ -115,24 +116,20 @@ complete-by s linked h some all links = complete-in s linked h s.cycle refl some
 abbrev pub IsSafeIfBound : Table → Cycle → Field → Type 0
 IsSafeIfBound s c f = (id : ℕ) → s.bound f ≡ Some id → IsSafe s c f id
 
-safe-by : (s : Table) (c : Cycle) (o : ℕ) → IsSafeIfBound s c (field.External (2 * o)) → IsSafeIfBound s c (field.External (2 * o + 1)) →
+safe-by : (s : Table) (c : Cycle) (o : ℕ) → IsSafeIfBound s c (external_field o 0) → IsSafeIfBound s c (external_field o 1) →
     IsSafeIfBound s c (field.Trusted o) → AreSafe s c o
-safe-by s c o first second third f id of bound = elim (field-of o f of) [
-  | inl p ↦ subst (IsSafeIfBound s c) (sym p) first id bound
-  | inr (inl p) ↦ subst (IsSafeIfBound s c) (sym p) second id bound
-  | inr (inr p) ↦ subst (IsSafeIfBound s c) (sym p) third id bound
-]
+safe-by s c o first second third f id of bound = each_field (IsSafeIfBound s c) o first second third f of id bound
 
 scan-in : (s : Table) (o : ℕ) (cycle : Option Cycle) →
-    IsSomeAnd cycle (λ c. IsOld c o × (c.scans o ≡ false) × IsSafeIfBound s c (field.External (2 * o))
-    × IsSafeIfBound s c (field.External (2 * o + 1)) × IsSafeIfBound s c (field.Trusted o)) →
+    IsSomeAnd cycle (λ c. IsOld c o × (c.scans o ≡ false) × IsSafeIfBound s c (external_field o 0)
+    × IsSafeIfBound s c (external_field o 1) × IsSafeIfBound s c (field.Trusted o)) →
     IsSomeAnd cycle (λ c. IsOld c o × (c.scans o ≡ false) × AreSafe s c o)
 scan-in s o None h = h
 scan-in s o (Some c) h = (h.0, h.1, safe-by s c o h.2 h.3 h.4)
 
 -- a scan is legal where each of the three fields is safe if it is bound
 pub scan-by : (s : Table) (o : ℕ) →
-    InCycle s (λ c. IsOld c o × (c.scans o ≡ false) × IsSafeIfBound s c (field.External (2 * o))
-    × IsSafeIfBound s c (field.External (2 * o + 1)) × IsSafeIfBound s c (field.Trusted o)) →
+    InCycle s (λ c. IsOld c o × (c.scans o ≡ false) × IsSafeIfBound s c (external_field o 0)
+    × IsSafeIfBound s c (external_field o 1) × IsSafeIfBound s c (field.Trusted o)) →
     InCycle s (λ c. IsOld c o × (c.scans o ≡ false) × AreSafe s c o)
 scan-by s o h = scan-in s o s.cycle h

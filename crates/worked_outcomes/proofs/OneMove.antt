@@ -47,7 +47,8 @@ use Rattle.worked_outcomes.specs.Compactions.{limits, init, filled, started, fin
 use Rattle.worked_outcomes.specs.WorkedLaws.{OtherMovesDoNotBelong}
 use Rattle.worked_outcomes.proofs.CompactionProof.{in_range}
 use Rattle.worked_outcomes.proofs.Objects.{IsSound-history}
-use Rattle.worked_outcomes.proofs.PauseKeeps.{Keeps, keeps-scans, keeps-start}
+use Rattle.table_laws.proofs.PauseActs.{pause-scans}
+use Rattle.table_laws.proofs.PauseKeeps.{IsCalm, calm-after, calm-start}
 use Rattle.worked_outcomes.proofs.ForcedCalls.{legal-parts, events-mine, none-forced, new-forced, init-forced}
 
 -- the calls of the first phase, and their replies
@@ -82,7 +83,7 @@ record IsReady (s : Table) : Type 0 where
   held : s.vars 0 0 ≡ Some 0
   few : (i : ℕ) → 5 ≤ i → s.cells External i ≡ None
 
-ready-keeps : (s t : Table) → IsReady s → Keeps s t → IsReady t
+ready-keeps : (s t : Table) → IsReady s → IsCalm s t → IsReady t
 ready-keeps s t h k = record {
   sizes = k.sizes ∙ h.sizes;
   word = ap (λ (words : Field → ℕ). words (field.External 1)) k.words ∙ h.word;
@@ -133,7 +134,7 @@ done-by (Some start) false e = refl
 record Met (s : Table) (events : List Event) (sweep : SweepReport) : Type 0 where
   scans : List Event
   is : events ≡ scans ++ finish ∷ []
-  keeps : Keeps s (after s scans)
+  calm : IsCalm s (after s scans)
   cycle : Cycle
   at : (after s scans).cycle ≡ Some cycle
   sweeps : IsSweep (after s scans) cycle (finished (after s scans) cycle) sweep
@@ -145,7 +146,7 @@ met-by linked s events sweep h =
     record {
       scans = h.0;
       is = h.1;
-      keeps = keeps-scans IsReadAtMeet meeting (MayScanAtMeet linked) Rest s h.0 Rest h.2.scans h.2.own;
+      calm = calm-after h.0 s (pause-scans IsReadAtMeet meeting (MayScanAtMeet linked) Rest s h.0 Rest h.2.scans h.2.own);
       cycle = found.0;
       at = found.1;
       sweeps = IsSomeAnd-is t.cycle (λ c. IsSweep t c (finished t c) sweep) found.0 found.1 h.3;
@@ -158,7 +159,7 @@ ready-aborted s events sweep h aborted met =
     let there : after s events ≡ finished t met.cycle =
     ap (after s) met.is ∙ after-append s met.scans (finish ∷ []) ∙ ap (finished_in t) met.at in
     subst IsReady (sym there)
-    (ready-finish t met.cycle (ready-keeps s t h met.keeps) (aborted-by met.cycle.start met.cycle.aborted (sym aborted ∙ met.sweeps.compaction)))
+    (ready-finish t met.cycle (ready-keeps s t h met.calm) (aborted-by met.cycle.start met.cycle.aborted (sym aborted ∙ met.sweeps.compaction)))
 
 -- no other index has a target, since no cell stands above index 4
 moves-no_other : (t : Table) (c : Cycle) → IsReady t → CycleSound t c → moves_from c ≡ Some 4 → (i : ℕ) → 4 ≢ i → IsSome (target c t.words i) → ⊥
@@ -176,10 +177,10 @@ moves-done : (s : Table) (events : List Event) (sweep : SweepReport) → IsSound
 moves-done s events sweep sound h start done legal met =
     let t = after s met.scans in
     let c = met.cycle in
-    let r : IsReady t = ready-keeps s t h met.keeps in
+    let r : IsReady t = ready-keeps s t h met.calm in
     let parts = legal-parts s met.scans (finish ∷ []) (subst (IsLegalHistory s) met.is legal) in
     let k : CycleSound t c = CycleSound-is t c (IsSound-after events-sound met.scans s sound parts.0) met.at in
-    let begins : c.start ≡ Some 4 = sym (ap start_in met.at) ∙ keeps-start s t met.keeps ∙ start in
+    let begins : c.start ≡ Some 4 = sym (ap start_in met.at) ∙ calm-start s t met.calm ∙ start in
     let aborted : c.aborted ≡ false = done-by c.start c.aborted (sym done ∙ met.sweeps.compaction) in
     let moves : moves_from c ≡ Some 4 = ap (λ (b : Bool). if b then None else c.start) aborted ∙ begins in
     let from : is_from (moves_from c) 4 ≡ true = ap (λ (o : Option ℕ). is_from o 4) moves in

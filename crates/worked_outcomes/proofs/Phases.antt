@@ -1,18 +1,15 @@
 -- What the parts of a phase need that are the same in each worked outcome: which numbers make events, that there is one
 -- mutator or one marker, and which fields an object has.
-use Rattle.std.proofs.Common.{◌≡◌, ◌⊎◌, ℕ, zero, suc, ◌+◌, ◌*◌, ◌<◌, ◌≤◌, Bool, true, List, [], ◌∷◌, refl, sym, ap, arith, inl, inr, subst, ◌∙◌, eqb-true}
+use Rattle.std.proofs.Common.{◌≡◌, ◌⊎◌, ℕ, zero, suc, ◌+◌, ◌<◌, ◌≤◌, Bool, true, List, [], ◌∷◌, sym, ap, arith, inl, inr, subst, ◌∙◌, eqb-true}
 use Rattle.std.specs.Prelude.{◌==◌, ◌||◌, ◌&&◌, if◌then◌else◌, nat_lt, nat_le}
 use Rattle.std.specs.List.{All}
 use Rattle.std.proofs.lemmas.Bool.{and_parts}
 use Rattle.std.proofs.lemmas.Bool.Decides.{nat_tests, eqb_tells}
 use Rattle.plain_table.specs.declared.scripts.Limits.{Limits}
 use Rattle.plain_table.specs.declared.events.Event.{Event}
-use Rattle.plain_table.specs.declared.events.Field.{Field}
-use Rattle.plain_table.specs.declared.events.Field.TheVariants as field
-use Rattle.plain_table.specs.Places.{object_of}
 use Rattle.plain_table.specs.Table.{Table}
 use Rattle.plain_table.specs.History.{next}
-use Rattle.plain_table.specs.Scans.{AreFieldsOf, IsReadBeside, Rest, Scans, Ends, Others}
+use Rattle.plain_table.specs.Scans.{IsReadBeside, Rest, Scans, Ends, Others}
 use Rattle.plain_table.specs.Belongs.{IsMarker, events_by}
 
 -- the number is that of a mutator or of a marker
@@ -48,27 +45,6 @@ one-mutator P here (suc b) below = absurd (omega arith)
 
 pub one-marker : (P : ℕ → Type 0) → P 8 → (b : ℕ) → (8 ≤ b) × (b < 9) → P b
 one-marker P here b is = let same : 8 ≡ b = omega (arith, is.0, is.1) in subst P same here
-
--- the three fields of an object
-abbrev pub fields_of : ℕ → List Field
-fields_of o = field.External (2 * o) ∷ field.External (2 * o + 1) ∷ field.Trusted o ∷ []
-
-pub field-of : (o : ℕ) (f : Field) → object_of f ≡ o →
-    (f ≡ field.External (2 * o)) ⊎ (f ≡ field.External (2 * o + 1)) ⊎ (f ≡ field.Trusted o)
-field-of o (field.External n) e =
-    let parts : (n ≡ 2 * o) ⊎ (n ≡ 2 * o + 1) = grind arith in
-    elim parts [ inl p ↦ inl (ap field.External p) | inr p ↦ inr (inl (ap field.External p)) ]
-field-of o (field.Trusted n) e = inr (inr (ap field.Trusted e))
-
-pub fields-are : (o : ℕ) → AreFieldsOf o (fields_of o)
-fields-are o = (
-  refl,
-  λ f is. elim (field-of o f is) [
-    | inl p ↦ (0, omega arith, sym p)
-    | inr (inl p) ↦ (1, omega arith, sym p)
-    | inr (inr p) ↦ (2, omega arith, sym p)
-  ],
-)
 
 -- a number that makes no event scans nothing
 pub scans-nothing : (b : ℕ) (s : Table) (es : List Event) → events_by b es ≡ [] → Scans (λ t o. Unit {0}) IsReadBeside b Rest s es Rest

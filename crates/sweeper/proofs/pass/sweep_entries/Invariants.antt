@@ -5,6 +5,7 @@ use Rattle.sweeper.proofs.pass.sweep_entries.Given as goal
 abbrev pub invariant-loop-index : goal.invariant-loop-index
 invariant-loop-index l = record {
   later : 1 ≤ l.index;
+  inside : l.index ≤ l.committed;
   words : IsPassAt l.fn.words l.words l.span.base l.span.limit l.span.from l.committed l.index;
   tally : IsTallyAt (entries_from l.fn.words l.span.base) l.span.limit l.span.from l.committed l.index l.tally;
   few : IsFew l.span.limit l.index l.tally;

@@ -1,8 +1,6 @@
--- Marking at the pause, as runs of events: what a run of events by the meeting leaves, and what late marking does.
-use Rattle.std.specs.Prelude.{◌≡◌, ℕ, ◌+◌, ◌^◌, nat_lt, ◌&&◌, if◌then◌else◌, List, [], ◌∷◌, slice_index, slice_set}
+-- Runs of events by the meeting, and the words after one that marks the cell at an index.
+use Rattle.std.specs.Prelude.{◌≡◌, ℕ, ◌+◌, ◌*◌, ◌^◌, nat_lt, ◌&&◌, if◌then◌else◌, List, slice_index, slice_set}
 use Rattle.std.specs.List.{All}
-use Rattle.plain_table.specs.declared.events.Act.{Act}
-use Rattle.plain_table.specs.declared.events.Act.TheVariants.{Mark, Below, Evac, Abort, Scan}
 use Rattle.plain_table.specs.declared.events.Event.{Event}
 use Rattle.plain_table.specs.declared.events.Space.{Space}
 use Rattle.plain_table.specs.declared.events.Space.TheVariants.{External, Trusted}
@@ -12,7 +10,6 @@ use Rattle.plain_table.specs.Scans.{Scanner, Scans, IsReadAtMeet}
 use Rattle.plain_table.specs.Shows.{Shows}
 use Rattle.plain_table.specs.Sweeps.{meeting, MayScanAtMeet}
 use Rattle.word_laws.specs.Kinds.{is_marked_word, is_cell_word}
-use Rattle.sweeper.specs.Moves.{external_base}
 
 -- a run of events by the meeting, from one point of its scans to another: it is legal, and the words after it show the
 -- table after it
@@ -24,8 +21,8 @@ pub record IsRun (linked : List ℕ) (at to : Scanner) (now : List ℕ) (s : Tab
 
 -- where the entries of a space stand
 abbrev pub base_of : Table → Space → ℕ
-base_of s External = external_base s
-base_of s Trusted = external_base s + limit_of s External
+base_of s External = 32 + 8 * s.sizes.objects
+base_of s Trusted = 32 + 8 * s.sizes.objects + limit_of s External
 
 -- a cell's word with the marking bit
 abbrev pub with_bit : ℕ → ℕ
@@ -35,29 +32,3 @@ with_bit word = if is_marked_word word then word else word + 2 ^ 62
 abbrev pub marked_after : List ℕ → (base limit i : ℕ) → List ℕ
 marked_after words base limit i =
     if nat_lt i limit && is_cell_word (slice_index words (base + i)) then slice_set words (base + i) (with_bit (slice_index words (base + i))) else words
-
--- the events of scans
-abbrev pub IsPauseAct : Act → Type 0
-IsPauseAct (Mark p i) = Unit {0}
-IsPauseAct (Below start) = Unit {0}
-IsPauseAct (Evac i number) = Unit {0}
-IsPauseAct Abort = Unit {0}
-IsPauseAct (Scan o) = Unit {0}
-IsPauseAct _ = ⊥
-
--- those of visits, which scan nothing
-abbrev pub IsVisitAct : Act → Type 0
-IsVisitAct (Mark p i) = Unit {0}
-IsVisitAct (Below start) = Unit {0}
-IsVisitAct (Evac i number) = Unit {0}
-IsVisitAct Abort = Unit {0}
-IsVisitAct _ = ⊥
-
--- how many objects a list of events scans
-abbrev pub scans_of : Act → ℕ
-scans_of (Scan o) = 1
-scans_of _ = 0
-
-abbrev pub scans_in : List Event → ℕ
-scans_in [] = 0
-scans_in (e ∷ es) = scans_of e.act + scans_in es

@@ -1,8 +1,9 @@
--- Events of a pause leave cells, fields, references, roots and tickets alone, and keep what is due.
-use Rattle.std.proofs.Common.{◌≡◌, ◌+◌, arith, ◌++◌, ℕ, List, [], ◌∷◌, Option, Some, None, refl, sym, ap, subst, ◌∙◌, inl}
+-- What no pause changes: its events change no cell and no word, nothing that fields own and that references, globals and
+-- variables hold, no ticket, and in the cycle not the area and the roots at its start; and they keep what is due.
+use Rattle.std.proofs.Common.{◌≡◌, ℕ, List, [], ◌∷◌, Option, Some, None, refl, sym, ap, subst, ◌∙◌, inl}
+use Rattle.std.specs.Option.{option_map}
 use Rattle.std.specs.List.{All}
-use Rattle.std.proofs.lemmas.List.Elements.{All-nil, All-cons, All-head, All-tail}
-use Rattle.sweeper.specs.Pause.{IsPauseAct, IsVisitAct, scans_of, scans_in}
+use Rattle.std.proofs.lemmas.List.Elements.{All-head, All-tail}
 use Rattle.std.proofs.lemmas.Option.{same_Some}
 use Rattle.plain_table.specs.declared.events.Act.{Act}
 use Rattle.plain_table.specs.declared.events.Act.TheVariants.{Mark, Below, Evac, Abort, Scan}
@@ -10,49 +11,25 @@ use Rattle.plain_table.specs.declared.events.Event.{Event}
 use Rattle.plain_table.specs.declared.events.Space.TheVariants.{External}
 use Rattle.plain_table.specs.declared.events.Field.{Field}
 use Rattle.plain_table.specs.Reachable.{IsRoot}
-use Rattle.plain_table.specs.Cycle.{Cycle}
+use Rattle.plain_table.specs.Cycle.{Cycle, start_in, with_abort, with_entry, with_mark, with_scan}
 use Rattle.plain_table.specs.Table.{Table}
 use Rattle.plain_table.specs.Rows.{row, with_taken, free_below, IsSafe}
 use Rattle.plain_table.specs.History.{IsLegalHistory, next, after}
-use Rattle.table_laws.specs.Steady.{IsBeside, CycleSteady, CyclesSteady}
 use Rattle.plain_table.specs.Sound.{IsSound}
 use Rattle.plain_table.specs.Sweeps.{IsDue, Was_root, Was_linked, Is_root, Is_referred}
-use Rattle.table_laws.specs.Laws.{EventsAreSteady, EventsKeepSoundness}
+use Rattle.table_laws.specs.Pauses.{IsPauseAct}
+use Rattle.table_laws.specs.Steady.{IsBeside, CycleSteady, CyclesSteady}
+use Rattle.table_laws.proofs.Soundness.{events-sound}
+use Rattle.table_laws.proofs.Steadiness.{events-steady}
 
-IsPauseAct-visit : (a : Act) → IsVisitAct a → IsPauseAct a
-IsPauseAct-visit (Mark p i) is = tt
-IsPauseAct-visit (Below start) is = tt
-IsPauseAct-visit (Evac i number) is = tt
-IsPauseAct-visit Abort is = tt
-IsPauseAct-visit _ is = absurd is
+-- what does not change in a cycle
+pub record Fixed : Type 0 where
+  pub start : Option ℕ
+  pub globals : ℕ → Option ℕ
+  pub vars : ℕ → ℕ → Option ℕ
 
-pub pause-visits : (es : List Event) → All (λ (e : Event). IsVisitAct e.act) es → All (λ (e : Event). IsPauseAct e.act) es
-pause-visits [] all = All-nil (λ (e : Event). IsPauseAct e.act)
-pause-visits (e ∷ es) all =
-    All-cons (λ (e : Event). IsPauseAct e.act) e es (IsPauseAct-visit e.act (All-head (λ (e : Event). IsVisitAct e.act) e es all))
-    (pause-visits es (All-tail (λ (e : Event). IsVisitAct e.act) e es all))
-
-scans_of-visit : (a : Act) → IsVisitAct a → scans_of a ≡ 0
-scans_of-visit (Mark p i) is = refl
-scans_of-visit (Below start) is = refl
-scans_of-visit (Evac i number) is = refl
-scans_of-visit Abort is = refl
-scans_of-visit _ is = absurd is
-
--- visits scan nothing
-pub scans_in-visits : (es : List Event) → All (λ (e : Event). IsVisitAct e.act) es → scans_in es ≡ 0
-scans_in-visits [] all = refl
-scans_in-visits (e ∷ es) all =
-    let here = scans_of-visit e.act (All-head (λ (e : Event). IsVisitAct e.act) e es all) in
-    let rest = scans_in-visits es (All-tail (λ (e : Event). IsVisitAct e.act) e es all) in
-    omega (arith, here, rest)
-
-pub scans_in-append : (es fs : List Event) → scans_in (es ++ fs) ≡ scans_in es + scans_in fs
-scans_in-append [] fs = refl_zero (scans_in fs)
-  where
-    refl_zero : (n : ℕ) → n ≡ 0 + n
-    refl_zero n = omega arith
-scans_in-append (e ∷ es) fs = let rest = scans_in-append es fs in omega (arith, rest)
+abbrev pub fixed_of : Cycle → Fixed
+fixed_of c = record { start = c.start; globals = c.globals; vars = c.vars }
 
 pub record IsCalm (s t : Table) : Type 0 where
   pub sizes : t.sizes ≡ s.sizes
@@ -64,9 +41,10 @@ pub record IsCalm (s t : Table) : Type 0 where
   pub globals : t.globals ≡ s.globals
   pub vars : t.vars ≡ s.vars
   pub count : t.count ≡ s.count
+  pub cycle : option_map fixed_of t.cycle ≡ option_map fixed_of s.cycle
 
 pub IsCalm-refl : (s : Table) → IsCalm s s
-IsCalm-refl s = record { sizes = refl; cells = refl; words = refl; bound = refl; ticket = refl; refs = refl; globals = refl; vars = refl; count = refl }
+IsCalm-refl s = record { sizes = refl; cells = refl; words = refl; bound = refl; ticket = refl; refs = refl; globals = refl; vars = refl; count = refl; cycle = refl }
 
 pub IsCalm-join : (s t u : Table) → IsCalm s t → IsCalm t u → IsCalm s u
 IsCalm-join s t u one two = record {
@@ -79,18 +57,66 @@ IsCalm-join s t u one two = record {
   globals = two.globals ∙ one.globals;
   vars = two.vars ∙ one.vars;
   count = two.count ∙ one.count;
+  cycle = two.cycle ∙ one.cycle;
 }
+
+pub IsCalm-sym : (s t : Table) → IsCalm s t → IsCalm t s
+IsCalm-sym s t calm = record {
+  sizes = sym calm.sizes;
+  cells = sym calm.cells;
+  words = sym calm.words;
+  bound = sym calm.bound;
+  ticket = sym calm.ticket;
+  refs = sym calm.refs;
+  globals = sym calm.globals;
+  vars = sym calm.vars;
+  count = sym calm.count;
+  cycle = sym calm.cycle;
+}
+
+start_of : Option Fixed → Option ℕ
+start_of None = None
+start_of (Some f) = f.start
+
+start-fixed : (cycle : Option Cycle) → start_in cycle ≡ start_of (option_map fixed_of cycle)
+unfolding start_of
+start-fixed None = refl
+start-fixed (Some c) = refl
+
+pub calm-start : (s t : Table) → IsCalm s t → start_in t.cycle ≡ start_in s.cycle
+calm-start s t calm = start-fixed t.cycle ∙ ap start_of calm.cycle ∙ sym (start-fixed s.cycle)
 
 calm-taken : (s : Table) (b : ℕ) (found : Option ℕ) → IsCalm s (with_taken s b External found)
 calm-taken s b None = IsCalm-refl s
-calm-taken s b (Some i) = record { sizes = refl; cells = refl; words = refl; bound = refl; ticket = refl; refs = refl; globals = refl; vars = refl; count = refl }
+calm-taken s b (Some i) = record { sizes = refl; cells = refl; words = refl; bound = refl; ticket = refl; refs = refl; globals = refl; vars = refl; count = refl; cycle = refl }
+
+-- a cycle that changed, and in it nothing fixed
+fixed-changed : (change : Cycle → Cycle) → ((c : Cycle) → fixed_of (change c) ≡ fixed_of c) → (cycle : Option Cycle) →
+    option_map fixed_of (option_map change cycle) ≡ option_map fixed_of cycle
+fixed-changed change same None = refl
+fixed-changed change same (Some c) = ap Some (same c)
+
+calm-cycle : (s t : Table) (change : Cycle → Cycle) → ((c : Cycle) → fixed_of (change c) ≡ fixed_of c) → t.cycle ≡ option_map change s.cycle → t.sizes ≡ s.sizes → t.cells ≡ s.cells →
+    t.words ≡ s.words → t.bound ≡ s.bound → t.ticket ≡ s.ticket → t.refs ≡ s.refs → t.globals ≡ s.globals → t.vars ≡ s.vars → t.count ≡ s.count → IsCalm s t
+calm-cycle s t change same cycle sizes cells words bound ticket refs globals vars count = record {
+  sizes = sizes;
+  cells = cells;
+  words = words;
+  bound = bound;
+  ticket = ticket;
+  refs = refs;
+  globals = globals;
+  vars = vars;
+  count = count;
+  cycle = ap (option_map fixed_of) cycle ∙ fixed-changed change same s.cycle;
+}
 
 pub calm-row : (s : Table) (b : ℕ) (a : Act) → IsPauseAct a → IsCalm s (row s b a).next
-calm-row s b (Mark p i) is = record { sizes = refl; cells = refl; words = refl; bound = refl; ticket = refl; refs = refl; globals = refl; vars = refl; count = refl }
+calm-row s b (Mark p i) is = calm-cycle s (row s b (Mark p i)).next (with_mark p i) (λ c. refl) refl refl refl refl refl refl refl refl refl refl
 calm-row s b (Below start) is = calm-taken s b (free_below s start)
-calm-row s b (Evac i number) is = record { sizes = refl; cells = refl; words = refl; bound = refl; ticket = refl; refs = refl; globals = refl; vars = refl; count = refl }
-calm-row s b Abort is = record { sizes = refl; cells = refl; words = refl; bound = refl; ticket = refl; refs = refl; globals = refl; vars = refl; count = refl }
-calm-row s b (Scan o) is = record { sizes = refl; cells = refl; words = refl; bound = refl; ticket = refl; refs = refl; globals = refl; vars = refl; count = refl }
+calm-row s b (Evac i number) is = calm-cycle s (row s b (Evac i number)).next (with_entry i number) (λ c. refl) refl refl refl refl refl refl refl refl refl refl
+calm-row s b Abort is = calm-cycle s (row s b Abort).next with_abort (λ c. refl) refl refl refl refl refl refl refl refl refl refl
+calm-row s b (Scan o) is = calm-cycle s (row s b (Scan o)).next (with_scan o) (λ c. refl) refl refl refl refl refl refl refl refl refl refl
 calm-row s b _ is = absurd is
 
 -- what is due stays due
@@ -164,15 +190,15 @@ pub record IsKeptBy (s : Table) (c : Cycle) (t : Table) : Type 0 where
   pub steady : CycleSteady c cycle
   pub safe : (f : Field) (id : ℕ) → s.bound f ≡ Some id → IsSafe s c f id → IsSafe t cycle f id
 
-pub kept-after : EventsAreSteady → EventsKeepSoundness → (es : List Event) (s : Table) (c : Cycle) → IsSound s → s.cycle ≡ Some c →
+pub kept-after : (es : List Event) (s : Table) (c : Cycle) → IsSound s → s.cycle ≡ Some c →
     All (λ (e : Event). IsPauseAct e.act) es → IsLegalHistory s es → IsKeptBy s c (after s es)
-kept-after steady keeps [] s c h is all legal = record { cycle = c; is = is; sound = h; steady = CycleSteady-refl c; safe = λ f id bound safe. safe }
-kept-after steady keeps (e ∷ es) s c h is all legal =
+kept-after [] s c h is all legal = record { cycle = c; is = is; sound = h; steady = CycleSteady-refl c; safe = λ f id bound safe. safe }
+kept-after (e ∷ es) s c h is all legal =
     let act = All-head (λ (e : Event). IsPauseAct e.act) e es all in
-    let one = steady s e h legal.0 (IsBeside-pause e.act act) in
+    let one = events-steady s e h legal.0 (IsBeside-pause e.act act) in
     let calm = calm-row s e.by e.act act in
     let now = CyclesSteady-some s.cycle (next s e).cycle c is one.cycle in
-    let rest = kept-after steady keeps es (next s e) now.0 (keeps s e h legal.0) now.1 (All-tail (λ (e : Event). IsPauseAct e.act) e es all) legal.1 in
+    let rest = kept-after es (next s e) now.0 (events-sound s e h legal.0) now.1 (All-tail (λ (e : Event). IsPauseAct e.act) e es all) legal.1 in
     record {
       cycle = rest.cycle;
       is = rest.is;

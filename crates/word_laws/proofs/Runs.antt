@@ -29,17 +29,16 @@ use Rattle.plain_table.proofs.ScansGoOn.{Scans-append}
 use Rattle.plain_table.proofs.CallsMade.{after-append, IsLegalHistory-append}
 use Rattle.word_laws.proofs.CellWords.{CellWordsFollow-row}
 use Rattle.plain_table.proofs.CycleParts.{CycleSound-is}
-use Rattle.sweeper.specs.Small.{AreSmall}
+use Rattle.word_laws.specs.Small.{AreSmall}
 use Rattle.word_laws.specs.Kinds.{is_marked_word, is_cell_word}
-use Rattle.sweeper.specs.Pause.{IsRun, base_of, with_bit, marked_after}
+use Rattle.word_laws.specs.Runs.{IsRun, base_of, with_bit, marked_after}
 use Rattle.word_laws.proofs.WordKinds.{cell-kind}
 use Rattle.word_laws.proofs.EntryKinds.{cell-at, cell-kind-at, no_cell-kind-at}
 use Rattle.plain_table.proofs.PlaceReads.{put_entry-same}
 use Rattle.std.proofs.lemmas.Option.{same_Some}
-use Rattle.sweeper.specs.Pause.{IsVisitAct}
-use Rattle.sweeper.proofs.Still.{cell-below}
+use Rattle.plain_table.proofs.SpacesShown.{cell-below}
 
-abbrev IsOwnEvent : Event → Type 0
+abbrev pub IsOwnEvent : Event → Type 0
 IsOwnEvent e = e.by ≡ meeting
 
 pub IsRun-join : (linked : List ℕ) (at mid to : Scanner) (first second : List ℕ) (s : Table) (es fs : List Event) →
@@ -59,7 +58,7 @@ with_bit-cell cell false is = cond-false (is_marked_word (cell_word cell false))
     by true = omega arith
     by false = omega arith
 
-module _ (linked : List ℕ) (s : Table) (c : Cycle) (h : IsSound s) (is : s.cycle ≡ Some c) (small : AreSmall s) (words : List ℕ) (shows : Shows words s)
+module _ (linked : List ℕ) (s : Table) (c : Cycle) (h : IsSound s) (is : s.cycle ≡ Some c) (small : AreSmall s.sizes) (words : List ℕ) (shows : Shows words s)
     (o : ℕ) (f : Field) (fields : List Field) (of : object_of f ≡ o) (old : IsOld c o) where
   abbrev p : Space
   p = space_of f
@@ -84,7 +83,7 @@ module _ (linked : List ℕ) (s : Table) (c : Cycle) (h : IsSound s) (is : s.cyc
   -- the visit of a field marks the cell that its word names, if one stands there
   abbrev pub MarkRuns : Type 0
   MarkRuns =
-      (es : List Event) × IsRun linked (Visit o (f ∷ fields)) (marked_at o fields f (s.words f)) marked_words s es × All (λ (e : Event). IsVisitAct e.act) es
+      (es : List Event) × IsRun linked (Visit o (f ∷ fields)) (marked_at o fields f (s.words f)) marked_words s es × All (λ (e : Event). e.act ≡ Mark p i) es
       × (IsSome (s.cells p i) → (d : Cycle) → (after s es).cycle ≡ Some d → IsTrue (d.marks p i))
 
   pub mark-runs : MarkRuns
@@ -99,7 +98,7 @@ module _ (linked : List ℕ) (s : Table) (c : Cycle) (h : IsSound s) (is : s.cyc
           shows = subst (λ (ws : List ℕ). Shows ws s) (sym same) shows;
           scans = Turn (Visit o (f ∷ fields)) (marked_at o fields f (s.words f)) s [] (marked_at o fields f (s.words f)) (Passes o f (s.words f) fields refl none) (Ends (marked_at o fields f (s.words f)) s);
         },
-        All-nil (λ (e : Event). IsVisitAct e.act),
+        All-nil (λ (e : Event). e.act ≡ Mark p i),
         λ some. absurd (both_ways (is_some (s.cells p i)) (ap is_some none) some),
       )
         where
@@ -121,7 +120,7 @@ module _ (linked : List ℕ) (s : Table) (c : Cycle) (h : IsSound s) (is : s.cyc
           shows = subst (λ (ws : List ℕ). Shows ws (next s e)) (sym same) (CellWordsFollow-row words s e p i cell h.used shows legal (refl, refl) stands);
           scans = Make (Visit o (f ∷ fields)) (marked_at o fields f (s.words f)) s e [] (marked_at o fields f (s.words f)) refl (Marks o f (s.words f) fields refl) (Ends (marked_at o fields f (s.words f)) (next s e));
         },
-        All-cons (λ (e : Event). IsVisitAct e.act) e [] tt (All-nil (λ (e : Event). IsVisitAct e.act)),
+        All-cons (λ (e : Event). e.act ≡ Mark p i) e [] refl (All-nil (λ (e : Event). e.act ≡ Mark p i)),
         λ some d eq. marked d eq,
       )
         where
@@ -152,5 +151,5 @@ module _ (linked : List ℕ) (s : Table) (c : Cycle) (h : IsSound s) (is : s.cyc
               let kind = cell-kind-at s c h is small p (entry p) (space p).0 (space p).1 (space p).2 i cell stands in
               let word = cell-at s c h is small p (entry p) (space p).0 (space p).1 (space p).2 i cell stands in
               cond-true (nat_lt i (limit_of s p) && is_cell_word (entry p i)) (slice_set words (base_of s p + i) (with_bit (entry p i))) words
-              (and_from (nat_lt i (limit_of s p)) (is_cell_word (entry p i)) (lt-ltb i (limit_of s p) (cell-below s c h is small p i cell stands)) kind.is_cell)
+              (and_from (nat_lt i (limit_of s p)) (is_cell_word (entry p i)) (lt-ltb i (limit_of s p) (cell-below s p i h (ap is_some stands))) kind.is_cell)
               ∙ ap₂ (slice_set words) (sym (place_same p i)) (ap with_bit word ∙ with_bit-cell cell (c.marks p i) (cell-kind cell (c.marks p i) (h.cells.tags p i cell stands)).is_marked)

@@ -1,4 +1,5 @@
--- At the pause: an evacuation entry for a cell of the area, and the abort where no index below it is free.
+-- Runs at the pause: an evacuation entry for a cell of the area, the abort where no index below it is free, and the scan of an
+-- object.
 use Rattle.std.proofs.Common.{◌≡◌, ◌+◌, ◌/◌, ◌%◌, ◌^◌, ◌<◌, ◌==◌, ℕ, true, false, List, [], ◌∷◌, slice_index, slice_set, Option, Some, None, refl, sym, ap, subst, ◌∙◌, arith, lt-ltb, eq-eqb}
 use Rattle.std.specs.Prelude.{nat_lt, unwrap_or, IsSomeAnd}
 use Rattle.std.specs.Option.{option_map_or}
@@ -27,22 +28,18 @@ use Rattle.word_laws.proofs.CountWords.{AreaWordsFollow-row}
 use Rattle.word_laws.proofs.FreelistReads.{FreelistsTell-shown}
 use Rattle.word_laws.proofs.FreelistWords.{FreelistWordsFollow-row}
 use Rattle.word_laws.proofs.HeaderWords.{ScanWordsFollow-row}
-use Rattle.table_laws.proofs.Soundness.{IsSound-row}
-use Rattle.sweeper.specs.Small.{AreSmall}
-use Rattle.sweeper.specs.Moves.{external_base}
-use Rattle.sweeper.specs.Pause.{IsRun}
+use Rattle.word_laws.specs.Small.{AreSmall}
+use Rattle.word_laws.specs.Runs.{IsRun, base_of}
+use Rattle.word_laws.proofs.Runs.{IsOwnEvent}
 
-abbrev IsOwnEvent : Event → Type 0
-IsOwnEvent e = e.by ≡ meeting
-
-module _ (linked : List ℕ) (s : Table) (c : Cycle) (h : IsSound s) (is : s.cycle ≡ Some c) (small : AreSmall s) (words : List ℕ) (shows : Shows words s) (o : ℕ) (fields : List Field) where
+module _ (linked : List ℕ) (s : Table) (c : Cycle) (h : IsSound s) (is : s.cycle ≡ Some c) (small : AreSmall s.sizes) (words : List ℕ) (shows : Shows words s) (o : ℕ) (fields : List Field) where
   -- the words after an evacuation entry at the head of the freelist
   abbrev pub evacuated : (number head link len : ℕ) → List ℕ
-  evacuated number head link len = slice_set (slice_set words 0 (freelist_word link len)) (external_base s + head) (evacuation_word number)
+  evacuated number head link len = slice_set (slice_set words 0 (freelist_word link len)) (base_of s External + head) (evacuation_word number)
 
   module _ (number w start head link len : ℕ) (begins : c.start ≡ Some start) (in_area : IsInArea s w) (old : IsOld c (object_of (field.External number)))
       (len_is : slice_index words 0 / 2 ^ 32 ≡ len + 1) (head_is : slice_index words 0 % 2 ^ 32 ≡ head) (below : head < start)
-      (link_is : slice_index words (external_base s + head) ≡ free_word link) where
+      (link_is : slice_index words (base_of s External + head) ≡ free_word link) where
     abbrev first : Event
     first = event meeting (Below start) (reply.Index head)
 
@@ -74,9 +71,6 @@ module _ (linked : List ℕ) (s : Table) (c : Cycle) (h : IsSound s) (is : s.cyc
         subst (Shows (slice_set words 0 (freelist_word link len))) after_first
         (FreelistWordsFollow-row words s (event meeting (Below start) (reply.Index head)) External head link len (h.used.first External) shows few legal_first refl refl len_is link_is)
 
-    sound_first : IsSound taken
-    sound_first = subst IsSound after_first (IsSound-row s meeting (Below start) h legal_first.0)
-
     legal_second : IsLegal taken (event meeting (Evac head number) reply.Ok)
     legal_second = (
       (
@@ -87,13 +81,14 @@ module _ (linked : List ℕ) (s : Table) (c : Cycle) (h : IsSound s) (is : s.cyc
       refl,
     )
 
-    pub evacuate-runs : IsRun linked (Move o fields number w) (Visit o fields) (evacuated number head link len) s
+    -- the table after the take is sound, as after each legal event
+    pub evacuate-runs : IsSound taken → IsRun linked (Move o fields number w) (Visit o fields) (evacuated number head link len) s
         (event meeting (Below start) (reply.Index head) ∷ event meeting (Evac head number) reply.Ok ∷ [])
-    evacuate-runs = record {
+    evacuate-runs sound_taken = record {
       legal = (legal_first, (subst (λ (t : Table). IsLegal t (event meeting (Evac head number) reply.Ok)) (sym after_first) legal_second, tt));
       own = All-cons IsOwnEvent (event meeting (Below start) (reply.Index head)) (event meeting (Evac head number) reply.Ok ∷ []) refl (All-cons IsOwnEvent (event meeting (Evac head number) reply.Ok) [] refl (All-nil IsOwnEvent));
       shows = subst (λ (t : Table). Shows (evacuated number head link len) (next t (event meeting (Evac head number) reply.Ok))) (sym after_first)
-          (EvacuationWordsFollow-row (slice_set words 0 (freelist_word link len)) taken (event meeting (Evac head number) reply.Ok) head number sound_first.used shows_first legal_second refl);
+          (EvacuationWordsFollow-row (slice_set words 0 (freelist_word link len)) taken (event meeting (Evac head number) reply.Ok) head number sound_taken.used shows_first legal_second refl);
       scans = Make (Move o fields number w) (Fill o fields number head) s first (second ∷ []) (Visit o fields) refl (Takes o number w start head fields in_area)
           (Make (Fill o fields number head) (Visit o fields) (next s first) second [] (Visit o fields) refl (Fills o number head fields)
           (Ends (Visit o fields) (next (next s first) second)));
