@@ -1,0 +1,9 @@
+pub mod Calls
+pub mod Words
+pub mod Fields
+pub mod Marks
+pub mod Exchanges
+pub mod Cycles
+pub mod Totals
+pub mod Inits
+pub mod Objects
