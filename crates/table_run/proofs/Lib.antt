@@ -1,9 +1,7 @@
-pub mod EntryWords
-pub mod EngineReads
-pub mod EngineInit
-pub mod EngineOpening
-pub mod EngineTotals
-pub mod RunCalls
-pub mod RunBelongs
-pub mod EngineStores
-pub mod OnePhase
+pub mod CallsKnown
+pub mod CallEvents
+pub mod CallRuns
+pub mod Meets
+pub mod PhaseRuns
+pub mod ScriptRuns
+pub mod ValidRuns

@@ -1,5 +1,3 @@
-pub mod Built
-pub mod EngineParts
-pub mod Engine
+pub mod CanRun
 pub mod Run
 pub mod Top

@@ -10,7 +10,7 @@ use Rattle.script_reader.specs.Grammar.{script_of}
 use Rattle.script_reader.specs.Canonical.{canonical_of}
 use Rattle.script_reader.specs.Law.{upgraded}
 use Rattle.report_text.specs.Report.{report_of, fault_text_of}
-use Rattle.table_run.specs.Built.{is_built}
+use Rattle.table_run.specs.CanRun.{can_run}
 use Rattle.table_run.specs.declared.answers.Form.{Form}
 use Rattle.table_run.specs.declared.answers.Form.TheVariants.{Run, Check, Upgrade}
 use Rattle.table_run.specs.declared.answers.Status.{Status}
@@ -38,11 +38,11 @@ code_of status.ReadFault = 4
 code_of status.WriteFault = 5
 code_of status.OutOfMemory = 6
 code_of status.TooLong = 7
-code_of status.NotBuilt = 8
+code_of status.CannotRun = 8
 
 -- the text is the report of an outcome that belongs to the script, which can be run, by some history
 pub record IsReportOf (script : Script) (text : List ℕ) : Type 0 where
-  pub built : IsTrue (is_built script)
+  pub runs : IsTrue (can_run script)
   pub history : List Part
   pub outcome : Outcome
   pub belongs : Belongs script history outcome
@@ -56,7 +56,7 @@ IsAskedText Upgrade script text = text ≡ canonical_of (upgraded script)
 
 -- the answer to a valid script, where nothing fails
 abbrev pub answer_of : Form → Script → Status
-answer_of Run script = if is_built script then status.Ok else status.NotBuilt
+answer_of Run script = if can_run script then status.Ok else status.CannotRun
 answer_of Check script = status.Ok
 answer_of Upgrade script = status.Ok
 
@@ -70,13 +70,13 @@ IsTextOf form bytes _ text = ⊥
 abbrev pub EachTextFits : Form → List ℕ → ℕ → Type 0
 EachTextFits form bytes room = (answer : Status) (text : List ℕ) → IsTextOf form bytes answer text → length text ≤ room
 
--- the bytes are to be run, and spell a valid script that can't be run yet
-pub record IsUnbuilt (form : Form) (bytes : List ℕ) (answer : Status) : Type 0 where
-  pub answer_is : answer ≡ status.NotBuilt
+-- the bytes are to be run, and spell a valid script of several mutators or of markers
+pub record IsUnrunnable (form : Form) (bytes : List ℕ) (answer : Status) : Type 0 where
+  pub answer_is : answer ≡ status.CannotRun
   pub runs : form ≡ Run
   pub script : Script
   pub read : script_of bytes ≡ Ok script
-  pub unbuilt : is_built script ≡ false
+  pub refused : can_run script ≡ false
 
 -- the whole text of this answer was written behind what was written before
 abbrev pub WroteAll : Form → List ℕ → Status → Option (List ℕ) → Option (List ℕ) → Type 0
@@ -94,5 +94,5 @@ IsSilent status.Usage = Unit {0}
 IsSilent status.ReadFault = Unit {0}
 IsSilent status.OutOfMemory = Unit {0}
 IsSilent status.TooLong = Unit {0}
-IsSilent status.NotBuilt = Unit {0}
+IsSilent status.CannotRun = Unit {0}
 IsSilent _ = ⊥

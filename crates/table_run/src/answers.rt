@@ -32,8 +32,8 @@ pub enum Status {
     OutOfMemory,
     /// The script has more than 4,194,304 bytes.
     TooLong,
-    /// The script is valid, and can't be run yet.
-    NotBuilt,
+    /// The script is valid, and has several mutators or a marker: it can't be run.
+    CannotRun,
 }
 
 impl Status {
@@ -49,7 +49,7 @@ impl Status {
             Status::WriteFault => 5,
             Status::OutOfMemory => 6,
             Status::TooLong => 7,
-            Status::NotBuilt => 8,
+            Status::CannotRun => 8,
         }
     }
 }

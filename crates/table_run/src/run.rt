@@ -1,117 +1,157 @@
-// A run of a whole script by the plain engine, and its outcome.
-ghost use Rattle.std.specs.Prelude.{◌≡◌, [], ◌∷◌, IfOk};
-ghost use Rattle.std.specs.List.{All, list_all};
-ghost use Rattle.plain_table.specs.declared.scripts.Meet.TheVariants.{End};
-ghost use Rattle.plain_table.specs.Table.{Table};
-ghost use Rattle.table_run.specs.Built.{IsOnePhase, IsValidCall, are_built, are_built_phases, is_built, is_built_op, is_end};
-ghost use Rattle.table_run.specs.Engine.{Shows};
-ghost use Rattle.table_run.specs.Run.{HasPlayed, Answers};
+// The run of a script of one mutator and no marker: its calls in turn, and what happens at each meet.
+ghost use Rattle.std.specs.Prelude.{◌≡◌, ◌≤◌, List, [], ◌∷◌, true, length, slice_index, IfOk};
+ghost use Rattle.std.specs.List.{All};
+ghost use Rattle.plain_table.specs.Table.{opening};
+ghost use Rattle.plain_table.specs.Words.{phase_place};
+ghost use Rattle.script_reader.specs.Lines.{most_operations};
+ghost use Rattle.script_reader.specs.Valid.{IsValidLimits, IsValidOp, IsValidScript, lists_length};
+ghost use Rattle.entry_word.specs.Image.{IsValidShape, sizes_of};
+ghost use Rattle.mutator_calls.specs.Calls.{IsReady};
+ghost use Rattle.table_run.specs.CanRun.{IsMeetAt, IsOneList, can_run, word_after};
+ghost use Rattle.table_run.specs.Run.{Answers, MeetsEach, PlaysEach, RunsEach};
 
-use crate::engine::Engine;
-use plain_table::{Meet, MeetReport, Op, Outcome, Phase, PhaseReport, Reply, Script};
+use crate::dispatch::{make_call, puts_by};
+use entry_word::Shape;
+use mutator_calls::Mutator;
+use plain_table::{
+    Limits, Meet, MeetReport, Op, OutOfMemory, Outcome, Phase, PhaseReport, Reply, Script,
+};
 use sqlite_items::Items;
 use std::alloc::{AllocError, Global};
 
-/// Runs a script that is built, and answers its outcome.
+/// The replies to some calls, and how many external cells these put.
+#[derive(Drop)]
+struct Played {
+    replies: Vec<Reply>,
+    puts: u32,
+}
+
+/// The report of a phase, and how many external cells its calls put.
+#[derive(Drop)]
+struct PhaseRun {
+    report: PhaseReport,
+    puts: u32,
+}
+
+/// The script has one mutator and no marker, so that it can be run.
+pub fn can_run(script: &Script) -> bool
+    ensures { result ≡ can_run script.now }
+{
+    script.limits.mutators == 1 && script.limits.markers == 0
+}
+
+/// Runs a script that can be run, and answers its outcome.
 pub fn run(alloc: Global, script: &Script) -> Result<Outcome, AllocError>
-    requires { IsOnePhase script.now }
+    requires valid { IsValidScript script.now }
+    requires one_mutator { can_run script.now ≡ true }
     ensures { IfOk result (Answers script.now) }
 {
-    let mut engine = Engine::start(alloc, &script.limits)?;
-    let replies = play(alloc, &mut engine, only_calls(script))?;
-    let totals = engine.totals();
-    let report = PhaseReport {
-        replies: only(alloc, Items::from_vec(replies))?,
-        meet: MeetReport::Ended,
+    let Ok(mut mutator) = Mutator::fresh(alloc, shape_of(&script.limits)) else {
+        return Err(AllocError);
     };
+    let phases = script.phases.as_slice();
+    let mut reports = Items::new(alloc);
+    let mut puts = 0;
+    for phase in phases {
+        let ran = run_phase(alloc, &mut mutator, phase)?;
+        puts += ran.puts;
+        reports.push(ran.report)?;
+    }
+    let totals = mutator.totals();
     Ok(Outcome {
-        phases: only(alloc, report)?,
+        phases: reports,
         live: totals.live,
-        trusted: 0,
-        objects: engine.count,
+        trusted: totals.trusted,
+        objects: totals.objects,
         sum: totals.sum,
-        puts: engine.used - 1,
+        puts,
     })
 }
 
-/// The script can be run today (`is_built` of `specs/Built.antt`).
-pub fn is_built(script: &Script) -> bool
-    ensures { result ≡ is_built script.now }
+/// The sizes of a table with these limits.
+fn shape_of(limits: &Limits) -> Shape
+    requires { IsValidLimits limits.now }
+    ensures valid { IsValidShape result }
+    ensures sizes { sizes_of result ≡ (opening limits.now).sizes }
 {
-    script.limits.mutators == 1
-        && script.limits.markers == 0
-        && are_built_phases(script.phases.as_slice())
-}
-
-/// There is one phase, which ends the script, with operations that are built.
-fn are_built_phases(phases: &[Phase]) -> bool
-    ensures { result ≡ are_built_phases phases.now }
-{
-    match phases {
-        [phase] => is_end(phase.meet) && are_built_lists(phase.calls.as_slice()),
-        _ => false,
+    Shape {
+        seg: limits.seg,
+        ext: limits.ext,
+        tru: limits.tru,
+        objects: limits.objects,
     }
 }
 
-fn is_end(meet: Meet) -> bool
-    ensures { result ≡ is_end meet }
+/// Makes the calls of a phase, and then what its meet asks for.
+fn run_phase(alloc: Global, mutator: &mut Mutator, phase: &Phase) -> Result<PhaseRun, AllocError>
+    requires ready { IsReady mutator.old }
+    requires calls { IsOneList phase.now }
+    requires meet { IsMeetAt (slice_index mutator.old.image.words.items phase_place) phase.now.meet }
+    ensures ready { IfOk result (λ ran. IsReady mutator.new) }
+    ensures runs { IfOk result (λ ran. RunsEach mutator.old mutator.new phase.now ran.report ran.puts) }
+    ensures few { IfOk result (λ ran. ran.puts ≤ lists_length phase.now.calls) }
+    ensures word { IfOk result (λ ran. slice_index mutator.new.image.words.items phase_place
+        ≡ word_after (slice_index mutator.old.image.words.items phase_place) phase.now.meet) }
 {
-    match meet {
-        Meet::End => true,
-        _ => false,
-    }
+    let played = play(alloc, mutator, only_calls(phase))?;
+    let meet = hold_meet(alloc, mutator, phase.meet)?;
+    let replies = only(alloc, Items::from_vec(played.replies))?;
+    Ok(PhaseRun {
+        report: PhaseReport { replies, meet },
+        puts: played.puts,
+    })
 }
 
-fn are_built_lists(lists: &[Items<Op>]) -> bool
-    ensures { result ≡ list_all are_built lists.now }
+/// The calls of the one mutator.
+fn only_calls(phase: &Phase) -> &[Op]
+    requires { IsOneList phase.now }
+    ensures { phase.now.calls ≡ result.now ∷ [] }
 {
-    lists.iter().all(|ops| are_built(ops.as_slice()))
-}
-
-fn are_built(ops: &[Op]) -> bool
-    ensures { result ≡ are_built ops.now }
-{
-    ops.iter().all(is_built_op)
-}
-
-fn is_built_op(op: &Op) -> bool
-    ensures { result ≡ is_built_op op.now }
-{
-    match op {
-        Op::New { .. }
-        | Op::Init { .. }
-        | Op::Load { .. }
-        | Op::Store { .. }
-        | Op::Swap { .. }
-        | Op::Name { .. }
-        | Op::Forge { .. }
-        | Op::Raw { .. }
-        | Op::RawSet { .. } => true,
-        _ => false,
-    }
-}
-
-/// The calls of the one mutator in the one phase.
-fn only_calls(script: &Script) -> &[Op]
-    requires { IsOnePhase script.now }
-    ensures { script.now.phases ≡ (record { calls = result.now ∷ []; meet = End }) ∷ [] }
-{
-    let phases = script.phases.as_slice();
-    let mutators = phases[0].calls.as_slice();
-    mutators[0].as_slice()
+    phase.calls.as_slice()[0].as_slice()
 }
 
 /// Makes the calls in turn, and lists their replies.
-fn play(alloc: Global, engine: &mut Engine, calls: &[Op]) -> Result<Vec<Reply>, AllocError>
-    requires { All IsValidCall calls.now }
-    ensures { IfOk result (λ replies. (s : Table) → Shows engine.old s →
-        HasPlayed engine.old engine.new s calls.now replies.items) }
+fn play(alloc: Global, mutator: &mut Mutator, calls: &[Op]) -> Result<Played, AllocError>
+    requires ready { IsReady mutator.old }
+    requires valid { All (IsValidOp 2) calls.now }
+    requires few { length calls.now ≤ most_operations }
+    ensures ready { IfOk result (λ played. IsReady mutator.new) }
+    ensures plays { IfOk result (λ played.
+        PlaysEach mutator.old mutator.new calls.now played.replies.items played.puts) }
+    ensures few { IfOk result (λ played. played.puts ≤ length calls.now) }
+    ensures word { IfOk result (λ played. slice_index mutator.new.image.words.items phase_place
+        ≡ slice_index mutator.old.image.words.items phase_place) }
 {
     let mut replies = Vec::with_capacity(alloc, calls.len())?;
+    let mut puts = 0;
     for call in calls {
-        replies.push(engine.call(call))?;
+        let reply = make_call(mutator, call);
+        puts += puts_by(call, reply);
+        replies.push(reply)?;
     }
-    Ok(replies)
+    Ok(Played { replies, puts })
+}
+
+/// Does what a meet asks for, and reports it.
+fn hold_meet(alloc: Global, mutator: &mut Mutator, meet: Meet) -> Result<MeetReport, AllocError>
+    requires ready { IsReady mutator.old }
+    requires fits { IsMeetAt (slice_index mutator.old.image.words.items phase_place) meet }
+    ensures ready { IfOk result (λ report. IsReady mutator.new) }
+    ensures meets { IfOk result (MeetsEach mutator.old mutator.new meet) }
+    ensures word { IfOk result (λ report. slice_index mutator.new.image.words.items phase_place
+        ≡ word_after (slice_index mutator.old.image.words.items phase_place) meet) }
+{
+    match meet {
+        Meet::Plain => Ok(MeetReport::Plain),
+        Meet::Start { policy } => match mutator.start(alloc, policy) {
+            Ok(area) => Ok(MeetReport::Started { area }),
+            Err(OutOfMemory) => Err(AllocError),
+        },
+        Meet::Finish => Ok(MeetReport::Swept {
+            report: mutator.finish(),
+        }),
+        Meet::End => Ok(MeetReport::Ended),
+    }
 }
 
 /// The list of one item.

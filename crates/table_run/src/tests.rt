@@ -25,7 +25,7 @@ const PIECE: usize = 16;
 
 /// What a run is made over: the words, the reads and writes that fail, and the room of the sink.
 #[derive(Clone, Copy)]
-struct Setting<'a> {
+pub(crate) struct Setting<'a> {
     words: &'a [&'a str],
     fail_read: &'a [u32],
     fail_write: &'a [u32],
@@ -33,7 +33,7 @@ struct Setting<'a> {
 }
 
 /// Runs over the joined parts of a script, and compares the status and the written text.
-fn check<R: AllocGlobal + Abort + Threads + Sync>(
+pub(crate) fn check<R: AllocGlobal + Abort + Threads + Sync>(
     rt: &R,
     setting: Setting,
     parts: &[&str],
@@ -60,7 +60,7 @@ fn check<R: AllocGlobal + Abort + Threads + Sync>(
 }
 
 /// A run of the words with no fault and room enough.
-fn plain<'a>(words: &'a [&'a str]) -> Setting<'a> {
+pub(crate) fn plain<'a>(words: &'a [&'a str]) -> Setting<'a> {
     Setting {
         words,
         fail_read: &[],
@@ -305,8 +305,7 @@ fn a_range_that_is_none_is_a_bad_tag(rt: HostRuntime) -> Result<(), Fail> {
 fn check_prints_ranges_as_they_are(rt: HostRuntime) -> Result<(), Fail> {
     let script =
         "ept 2 seg=4 ext=1 tru=1 objects=1 mutators=1 markers=0\nm0 new a\nm0 init a 0 20 0000000000c0\nm0 load a 0 1f-21\nm0 load a 0 20\nm0 load a 0 21-ff\nm0 store a 0 01-ff 0000000000c1\nm0 raw 00010000 01-1f\nm0 load a 0 20\nm0 tnew a ff 0000000000d0\nm0 tpub a\nm0 tload a fe-ff\nend\n";
-    check(&rt, plain(&["check"]), &[script], Status::Ok, script)?;
-    check(&rt, plain(&["run"]), &[script], Status::NotBuilt, "")
+    check(&rt, plain(&["check"]), &[script], Status::Ok, script)
 }
 
 #[test]
@@ -371,12 +370,17 @@ fn check_prints_the_canonical_script(rt: HostRuntime) -> Result<(), Fail> {
 }
 
 #[test]
-fn a_script_that_is_not_built_is_checked_and_not_run(rt: HostRuntime) -> Result<(), Fail> {
-    let script = [ONE_OBJECT, "m0 new a\nm0 drop a\n", "end\n"];
-    let canonical =
-        "ept 1 seg=4 ext=1 tru=1 objects=1 mutators=1 markers=0\nm0 new a\nm0 drop a\nend\n";
-    check(&rt, plain(&["run"]), &script, Status::NotBuilt, "")?;
-    check(&rt, plain(&["check"]), &script, Status::Ok, canonical)
+fn a_script_of_several_mutators_or_of_a_marker_is_checked_and_not_run(
+    rt: HostRuntime,
+) -> Result<(), Fail> {
+    for script in [
+        "ept 1 seg=4 ext=1 tru=1 objects=1 mutators=2 markers=0\nm0 new a\nend\n",
+        "ept 1 seg=4 ext=1 tru=1 objects=1 mutators=1 markers=1\nm0 new a\nend\n",
+    ] {
+        check(&rt, plain(&["check"]), &[script], Status::Ok, script)?;
+        check(&rt, plain(&["run"]), &[script], Status::CannotRun, "")?;
+    }
+    Ok(())
 }
 
 #[test]
@@ -413,7 +417,7 @@ fn each_status_has_its_code(rt: HostRuntime) {
         (Status::WriteFault, 5),
         (Status::OutOfMemory, 6),
         (Status::TooLong, 7),
-        (Status::NotBuilt, 8),
+        (Status::CannotRun, 8),
     ] {
         assert_eq!(rt; status.code(), code);
     }

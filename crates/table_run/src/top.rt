@@ -8,11 +8,11 @@ ghost use Rattle.script_reader.specs.Canonical.{canonical_of};
 ghost use Rattle.script_reader.specs.Grammar.{script_of};
 ghost use Rattle.script_reader.specs.Valid.{IsValidScript};
 ghost use Rattle.table_run.specs.declared.answers.Form.{Form};
-ghost use Rattle.table_run.specs.Built.{is_built};
-ghost use Rattle.table_run.specs.Top.{EachTextFits, IsAskedText, IsReportOf, IsSilent, IsTextOf, IsUnbuilt, WroteAll, WrotePart, answer_of, form_of, form_of_word, most_bytes};
+ghost use Rattle.table_run.specs.CanRun.{can_run};
+ghost use Rattle.table_run.specs.Top.{EachTextFits, IsAskedText, IsReportOf, IsSilent, IsTextOf, IsUnrunnable, WroteAll, WrotePart, answer_of, form_of, form_of_word, most_bytes};
 
 use crate::answers::{Form, Status};
-use crate::run::{is_built, run};
+use crate::run::{can_run, run};
 use ept_io::{ReadErr, Sink, Source, read_script, write_all};
 use plain_table::Script;
 use report_text::{fault_text, text};
@@ -64,10 +64,10 @@ pub fn run_main<R: Threads + Sync, S: Source, K: Sink>(
         IfSome (S.left src.old) (λ bytes. WrotePart form bytes (K.written out.old) (K.written out.new)) }
     ensures silent { IsSilent result → K.written out.new ≡ K.written out.old }
 
-    // A valid script that can't be run yet.
-    ensures not_built { (form : Form) → form_of (map string_bytes args.now) ≡ Some form → result ≡ Status.NotBuilt →
-        IfSome (S.left src.old) (λ bytes. IsUnbuilt form bytes Status.NotBuilt) }
-    ensures not_built_end { result ≡ Status.NotBuilt → IsAtEnd (S.left src.new) }
+    // A valid script of several mutators or of markers.
+    ensures cannot_run { (form : Form) → form_of (map string_bytes args.now) ≡ Some form → result ≡ Status.CannotRun →
+        IfSome (S.left src.old) (λ bytes. IsUnrunnable form bytes Status.CannotRun) }
+    ensures cannot_run_end { result ≡ Status.CannotRun → IsAtEnd (S.left src.new) }
 
     // A steady source, and a sink with room for each text that the script's bytes may have, have no fault.
     ensures steady { S.is_steady src.old → (result ≢ Status.ReadFault) × (S.faults src.new ≡ S.faults src.old) }
@@ -140,7 +140,7 @@ struct Answer {
 fn answer_to(alloc: Global, form: Form, bytes: &[u8]) -> Result<Answer, Status>
     ensures text { IfOk result (λ answer. IsTextOf form bytes.now answer.status (string_bytes answer.text)) }
     ensures named { IfOk result (λ answer. answer.status ≢ Status.Refused ScriptErr.OutOfMemory) }
-    ensures silent { IfErr result (λ status. (status ≡ Status.OutOfMemory) ⊎ IsUnbuilt form bytes.now status) }
+    ensures silent { IfErr result (λ status. (status ≡ Status.OutOfMemory) ⊎ IsUnrunnable form bytes.now status) }
 {
     match parse(alloc, bytes) {
         Ok(script) => Ok(Answer {
@@ -163,7 +163,7 @@ fn asked_text(alloc: Global, form: Form, script: Script) -> Result<String, Statu
     requires { IsValidScript script }
     ensures text { IfOk result (λ text. IsAskedText form script (string_bytes text)) }
     ensures silent { IfErr result (λ status. (status ≡ Status.OutOfMemory)
-        ⊎ ((status ≡ Status.NotBuilt) × (form ≡ Form.Run) × (is_built script ≡ false))) }
+        ⊎ ((status ≡ Status.CannotRun) × (form ≡ Form.Run) × (can_run script ≡ false))) }
 {
     match form {
         Form::Run => report_of_run(alloc, &script),
@@ -189,10 +189,10 @@ fn report_of_run(alloc: Global, script: &Script) -> Result<String, Status>
     requires { IsValidScript script.now }
     ensures text { IfOk result (λ text. IsReportOf script.now (string_bytes text)) }
     ensures silent { IfErr result (λ status. (status ≡ Status.OutOfMemory)
-        ⊎ ((status ≡ Status.NotBuilt) × (is_built script.now ≡ false))) }
+        ⊎ ((status ≡ Status.CannotRun) × (can_run script.now ≡ false))) }
 {
-    if !is_built(script) {
-        return Err(Status::NotBuilt);
+    if !can_run(script) {
+        return Err(Status::CannotRun);
     }
     match run(alloc, script) {
         Ok(outcome) => match text(alloc, &outcome) {

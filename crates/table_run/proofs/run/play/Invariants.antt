@@ -1,9 +1,9 @@
-use Rattle.std.proofs.Common.{take}
-use Rattle.plain_table.specs.Table.{Table}
-use Rattle.table_run.specs.Engine.{Shows}
-use Rattle.table_run.specs.Run.{HasPlayed}
+-- The calls before this turn have run.
+use Rattle.std.proofs.Common.{◌≤◌, take}
+use Rattle.mutator_calls.specs.Calls.{IsReady}
+use Rattle.table_run.specs.Run.{PlaysEach}
 use Rattle.table_run.proofs.run.play.Given as goal
 
 abbrev pub invariant-loop-call : goal.invariant-loop-call
-invariant-loop-call l = (s : Table) → Shows l.initial.engine s →
-    HasPlayed l.initial.engine l.engine s (take l.call-index l.calls) l.replies.items
+invariant-loop-call l =
+    IsReady l.mutator × PlaysEach l.initial.mutator l.mutator (take l.call-index l.calls) l.replies.items l.puts × (l.puts ≤ l.call-index)
