@@ -2,12 +2,14 @@ pub mod Counts
 pub mod PassSteps
 pub mod PassLoops
 pub mod SpaceSweeps
+pub mod EntryParts
 pub mod GreatestMark
 pub mod AfterPass
 pub mod Still
 pub mod MoveSteps
 pub mod Moved
 pub mod MoveLoop
+pub mod MoveChunks
 pub mod Finished
 pub mod Resolved
 pub mod SweptImages
