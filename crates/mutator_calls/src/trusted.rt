@@ -5,8 +5,9 @@ ghost use Rattle.mutator_calls.specs.Marks.{marked_in_cycle, with_mark};
 use crate::entries::look;
 use crate::freelists::take;
 use crate::heap::Mutator;
+use crate::inits::{bind, put};
 use crate::places::{PHASE, first_entry, trusted_place};
-use entry_word::{Entry, Pending, encode, index_of, word_of};
+use entry_word::{Entry, Pending, encode, index_of};
 use plain_table::{Reply, Space};
 use tag_set::{Range, Tag};
 
@@ -81,24 +82,26 @@ impl Mutator {
         if self.image.pending[0].is_some() {
             return Reply::Pending;
         }
-        let found = self.trusted_word(object);
         let shape = self.image.shape;
         let Some(index) = take(&mut self.image.words, shape, Space::Trusted) else {
             return Reply::Full;
         };
-        let tag = tag.byte();
-        let place = first_entry(shape, Space::Trusted) + index as usize;
-        self.image.words[place] = encode(&Entry::Unshown {
+        put(
+            &mut self.image.words,
+            shape,
+            Space::Trusted,
+            index,
             tag,
             value,
-            marked: true,
-        });
-        if found != 0 {
-            return Reply::Taken(found);
+        );
+        match bind(&mut self.image.words, trusted_place(object), index) {
+            Reply::Ok => {
+                let tag = tag.byte();
+                self.image.pending[0] = Some(Pending { index, tag, value });
+                Reply::Ok
+            }
+            taken => taken,
         }
-        self.image.words[trusted_place(object)] = u64::from(word_of(index));
-        self.image.pending[0] = Some(Pending { index, tag, value });
-        Reply::Ok
     }
 
     /// Publishes the entry that the trusted field of a variable's object names, where it is the mutator's to publish.
