@@ -3,7 +3,7 @@
 # It takes the program that ./gate kept, or another that is named. For each kind of script and number of operations it prints
 # a row: milliseconds of `check` in eptrun and in C++, and their ratio, the same of `run`, and the most memory of `run` in
 # eptrun and in C++. A time is the least processor time of 15 runs of the whole process. Both programs must write the same
-# bytes. Nothing of this is part of the gate.
+# bytes. After them come the scripts with collection cycles (cycles.sh). Nothing of this is part of the gate.
 top=$(dirname -- "$(readlink -f -- "$0")")/..
 program=${1:-$top/proved/$("$top/tools/checksum" eptrun)/eptrun}
 [ -x "$program" ] || { echo "bench: no program at $program; run ./gate first"; exit 0; }
@@ -83,3 +83,5 @@ for kind in loads inits stores raw comment; do
         echo "$row $(memory "$program") MiB | $(memory "$plain") MiB |"
     done
 done
+# Scripts with collection cycles, which plain.cpp does not run.
+"$top/bench/cycles.sh" "$program"
