@@ -15,7 +15,7 @@ work=$(mktemp -d) || exit 1
 trap 'rm -rf "$work"' EXIT
 echo '| Operations | Meets | plain | cycles | cycles with an area | Memory |'
 echo '|---|---|---|---|---|---|'
-for size in '25000 125' '50000 250' '100000 500' '200000 1000'; do
+for size in '25000 126' '50000 250' '100000 500' '200000 1000'; do
     operations=${size% *}
     meets=${size#* }
     row="| $operations | $meets |"
