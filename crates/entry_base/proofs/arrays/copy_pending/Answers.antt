@@ -1,0 +1,6 @@
+use Rattle.std.proofs.Common.{◌≡◌, ◌≤◌, ◌/◌, arith, false, get_or, None, length}
+use Rattle.entry_base.proofs.Picks.{copied_all, picked_all}
+use Rattle.entry_base.proofs.arrays.copy_pending.Goals as goal
+
+pub returns : goal.returns
+returns c = copied_all None _ c.loop-i.to c.loop-i.i c.loop-i.invariant (let t = c.loop-i-test.false in let r = c.requires in omega arith)

@@ -1,0 +1,17 @@
+pub mod Lists
+pub mod Openings
+pub mod Ranks
+pub mod Facts
+pub mod Numbers
+pub mod Hands
+pub mod Owns
+pub mod Rule
+pub mod Histories
+pub mod Callers
+pub mod Passed
+pub mod Views
+pub mod Joins
+pub mod Closing
+pub mod Tied
+pub mod Sessions
+pub mod Learned
