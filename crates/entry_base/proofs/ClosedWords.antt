@@ -1,5 +1,5 @@
 -- At the end a freelist leads to the end of the committed entries, and the words show the table once all after it is closed.
-use Rattle.std.proofs.Common.{◌≡◌, ◌≢◌, ℕ, ◌+◌, ◌-◌, ◌*◌, ◌/◌, ◌%◌, ◌^◌, ◌<◌, ◌≤◌, List, length, slice_index, Option, Some, None, IsTrue, refl, sym, ap, ap₂, subst, ◌∙◌, inl, inr, arith, ext_get_or}
+use Rattle.std.proofs.Common.{◌≡◌, ◌≢◌, ℕ, ◌+◌, ◌-◌, ◌*◌, ◌/◌, ◌%◌, ◌^◌, ◌<◌, ◌≤◌, List, length, slice_index, Option, Some, None, IsTrue, IsSome, refl, sym, ap, ap₂, subst, ◌∙◌, inl, inr, arith, ext_get_or}
 use Rattle.std.proofs.lemmas.Bool.{both_ways, cases_Bool, cases_lt}
 use Rattle.plain_table.specs.declared.events.Cell.{Cell}
 use Rattle.plain_table.specs.declared.events.Space.{Space}
@@ -9,10 +9,10 @@ use Rattle.plain_table.specs.Sound.{IsSound}
 use Rattle.plain_table.specs.Words.{freelist_place, entry_place, words_in_all, no_access_word, next_free}
 use Rattle.plain_table.specs.Shows.{entry_at, SpaceShows, Shows}
 use Rattle.plain_table.specs.Near.{IsNear}
-use Rattle.plain_table.proofs.SpacesShown.{Shows-space}
+use Rattle.plain_table.proofs.SpacesShown.{Shows-space, cell-used}
 use Rattle.word_laws.specs.Small.{AreSmall}
 use Rattle.word_laws.proofs.EntryBits.{cell_word-open}
-use Rattle.free_chain.proofs.Freelists.{chain_end-list}
+use Rattle.free_chain.proofs.Freelists.{IsFreelist-shown}
 use Rattle.free_chain.proofs.NextFree.{IsNextFree-next_free}
 use Rattle.entry_base.specs.Closing.{walk, end_in, IsClosedFrom, IsTableClosed}
 
@@ -66,14 +66,53 @@ module _ (s : Table) (shown words : List ℕ) (few : AreSmall s.sizes) (sound : 
     | inr other ↦ absurd (usable j below other.0)
   ]
 
+  -- the same table with no segment but the committed ones: the present words show this space of it
+  abbrev committed_table : Table
+  committed_table = record s { sizes = record { seg = here.0; ext = 1; tru = 1; objects = s.sizes.objects } }
+
+  committed_limit : limit_of committed_table p ≡ here.0
+  committed_limit = by_space p
+    where
+      by_space : (q : Space) → limit_in (record { seg = here.0; ext = 1; tru = 1; objects = s.sizes.objects }) q ≡ here.0
+      by_space External = omega arith
+      by_space Trusted = omega arith
+
+  abbrev entry : ℕ → ℕ
+  entry i = slice_index words (entry_place s.sizes p 0 + i)
+
+  entry_shown : (i : ℕ) → i < here.0 → entry i ≡ slice_index shown (entry_place s.sizes p i)
+  entry_shown i below = ap (slice_index words) (sym (place_from s.sizes p i)) ∙ as_shown i below
+
+  entry_low : (i number : ℕ) → entry_at s p i ≡ Some number → i < here.0
+  entry_low i number is = here.1.used i (by_space p is)
+    where
+      by_space : (q : Space) → entry_at s q i ≡ Some number → IsTrue (s.used q i)
+      by_space External e = (sound.used.entries i (subst (λ o. IsSome o) (sym e) refl)).0
+      by_space Trusted e = absurd (cc)
+
+  committed_shown : SpaceShows committed_table p entry (slice_index words (freelist_place p)) here.0
+  committed_shown = record {
+    segments = (1, omega arith);
+    within = let l = committed_limit in omega arith;
+    used = here.1.used;
+    null = entry_shown 0 (here.1.used 0 (sound.used.first p)) ∙ here.1.null;
+    cells = λ i cell is.
+        let found = here.1.cells i cell is in
+        (found.0, entry_shown i (here.1.used i (cell-used s p i sound (subst (λ o. IsSome o) (sym is) refl))) ∙ found.1, found.2);
+    evacuated = λ i number is. entry_shown i (entry_low i number is) ∙ here.1.evacuated i number is;
+    free = λ i low below is. entry_shown i below ∙ here.1.free i low below is;
+    empty = λ i is.
+        let found = here.1.empty i (record { used = is.used; later = is.later; no_cell = is.no_cell; no_entry = is.no_entry }) in
+        (found.0, found.1, entry_shown i (here.1.used i is.used) ∙ found.2);
+    closed = λ i from below. absurd (let l = committed_limit in omega arith);
+    list = near.low (freelist_place p) (freelist_low s.sizes p) ∙ here.1.list;
+  }
+
   pub space_ends : Ends s.sizes words shown p
   space_ends = record {
     committed = here.0;
     within = here.1.within;
-    ends = chain_end-list (s.used p) here.0 (λ i. slice_index words (entry_place s.sizes p 0 + i)) (slice_index words (freelist_place p))
-        (λ i low below free. ap (slice_index words) (sym (place_from s.sizes p i)) ∙ (as_shown i below ∙ here.1.free i low below free))
-        fits (let a = here.1.used 0 (sound.used.first p) in omega arith) (sound.used.first p)
-        (near.low (freelist_place p) (freelist_low s.sizes p) ∙ here.1.list);
+    ends = (IsFreelist-shown committed_table p entry (slice_index words (freelist_place p)) here.0 committed_shown (sound.used.first p) (subst (λ n. n < 2 ^ 32) (sym committed_limit) fits)).last;
     open_as_shown = as_shown;
     shut = here.1.closed;
   }

@@ -6,15 +6,17 @@ use Rattle.plain_table.specs.Words.{words_in_all}
 use lib.ListN.{get_elem?}
 use Rattle.atomic_table.specs.Table.{Final, Seen}
 use Rattle.plain_table.specs.Table.{Table, Sizes}
-use Rattle.plain_table.specs.History.{after}
+use Rattle.plain_table.specs.History.{IsLegalHistory, after}
+use Rattle.word_laws.proofs.AreaReads.{AreaWordsTell-shown}
+use Rattle.entry_base.specs.Lists.{Each}
 use Rattle.plain_table.specs.Shows.{PendingCell, IsPending, Shows, IsCovered}
 use Rattle.entry_base.specs.declared.view.Opening.{Opening}
 use Rattle.entry_word.specs.declared.image.Pending.{Pending}
 use Rattle.entry_word.specs.Image.{sizes_of}
 use Rattle.entry_base.specs.declared.view.View.{View}
-use Rattle.entry_base.specs.Numbers.{HasNumber}
+use Rattle.entry_base.specs.Numbers.{HasNumber, IsPhaseEvent}
 use Rattle.entry_base.specs.Openings.{pending_cell, IsBase, sizes_in}
-use Rattle.entry_base.specs.Rule.{Kept, Ruled}
+use Rattle.entry_base.specs.Rule.{Kept, Ruled, StateKept}
 use Rattle.word_laws.specs.Small.{AreSmall}
 use Rattle.entry_base.specs.Callers.{IsClosed}
 use Rattle.entry_base.specs.Closing.{IsTableClosed}
@@ -40,33 +42,52 @@ pub record Last (key : Opening) (words : List ℕ) (v : View) : Type 0 where
 pub last_of : (key : Opening) (id : ℕ) (v : View) (words : List ℕ) (slots : List (Unit {0})) → Final (Seen (Ruled key) id v) words slots → Last key words v
 last_of key id v words slots f = record { views = f.0.views; id = id; kept = subst (λ ws. Kept key ws f.0.views) f.2 f.1.0; at = f.1.1 }
 
-pub ends_closed : (key : Opening) (words later : List ℕ) (v : View) (l : Last key words v) → v.opening ≡ key → ((n : ℕ) → n ≤ 12 → HasNumber v n) → length v.vars ≡ 128 → length v.pending ≡ 8
-    → IsTableClosed (sizes_in key) words later → (closed : Opening) → closed.shape ≡ key.shape → closed.words ≡ later → closed.vars ≡ v.vars → closed.pending ≡ v.pending → IsClosed key v.seen closed
-ends_closed key words later v l opened all many eight done closed shape is_words is_vars is_pending =
-    let end = closes key words l.views l.id v l.kept l.at all in
-    let sizes : sizes_in closed ≡ sizes_in key = ap sizes_of shape in
-    record {
-      sizes = sizes;
-      lawful = record { legal = λ b base. (end.2 b base).0; events = end.1 };
-      shows = λ b base.
-          let st = (end.2 b base).1 in
-          let same : closed.words ≡ l.kept.shown = is_words ∙ closed_words (sizes_in key) (after b v.seen) l.kept.shown words later st.sizes l.kept.few st.sound st.shows l.kept.near done in
-          let owns = st.owns l.id v l.at in record {
-            sound = st.sound;
-            shows = record {
-              sizes = st.sizes ∙ sym sizes;
-              words = subst (λ ws. Shows ws (after b v.seen)) (sym same) st.shows;
-              variables = (ap length is_vars ∙ many, λ n i low less. ap (λ xs. slice_index xs (16 * n + i)) is_vars ∙ owns.variables n i (all n (omega arith)) low less);
-              pending = (
-                length-map closed.pending pending_cell ∙ (ap length is_pending ∙ eight),
-                λ n d low. subst (IsPending (after b v.seen) ((after b v.seen).ticket n))
-                    (sym (pending_back closed.pending n d (let e = ap length is_pending in omega arith) None ∙ ap (λ (xs : List (Option Pending)). pending_cell (get_or xs n None)) is_pending))
-                    (owns.pending n None (all n (omega arith)) low),
-              );
-            };
-            covered = subst (λ ws. IsCovered ws (after b v.seen)) (sym same) st.covered;
-          };
+module _ (key : Opening) (words later : List ℕ) (v : View) (l : Last key words v) (all : (n : ℕ) → n ≤ 12 → HasNumber v n) (many : length v.vars ≡ 128) (eight : length v.pending ≡ 8)
+    (done : IsTableClosed (sizes_in key) words later) (closed : Opening) (shape : closed.shape ≡ key.shape) (is_words : closed.words ≡ later) (is_vars : closed.vars ≡ v.vars) (is_pending : closed.pending ≡ v.pending) where
+  whole : (l.kept.log ≡ v.seen) × Each IsPhaseEvent v.seen × ((b : Table) → IsBase key b → IsLegalHistory b v.seen × StateKept key v.seen l.kept.shown words l.views (after b v.seen))
+  whole = closes key words l.views l.id v l.kept l.at all
+
+  sizes : sizes_in closed ≡ sizes_in key
+  sizes = ap sizes_of shape
+
+  module _ (b : Table) (base : IsBase key b) where
+    last : StateKept key v.seen l.kept.shown words l.views (after b v.seen)
+    last = (whole.2 b base).1
+
+    same : closed.words ≡ l.kept.shown
+    same = is_words ∙ closed_words (sizes_in key) (after b v.seen) l.kept.shown words later last.sizes l.kept.few last.sound last.shows l.kept.near done
+
+    last_base : IsBase closed (after b v.seen)
+    last_base = let owns = last.owns l.id v l.at in record {
+      sound = last.sound;
+      shows = record {
+        sizes = last.sizes ∙ sym sizes;
+        words = subst (λ ws. Shows ws (after b v.seen)) (sym same) last.shows;
+        variables = (ap length is_vars ∙ many, λ n i low less. ap (λ xs. slice_index xs (16 * n + i)) is_vars ∙ owns.variables n i (all n (omega arith)) low less);
+        pending = (
+          length-map closed.pending pending_cell ∙ (ap length is_pending ∙ eight),
+          λ n d low. subst (IsPending (after b v.seen) ((after b v.seen).ticket n))
+              (sym (pending_back closed.pending n d (let e = ap length is_pending in omega arith) None ∙ ap (λ (xs : List (Option Pending)). pending_cell (get_or xs n None)) is_pending))
+              (owns.pending n None (all n (omega arith)) low),
+        );
+      };
+      covered = subst (λ ws. IsCovered ws (after b v.seen)) (sym same) last.covered;
     }
+
+  pub ends_closed : IsClosed key v.seen closed
+  ends_closed =
+      let base = l.kept.base in
+      let is = l.kept.is_base in
+      let st = last base is in
+      let now = last_base base is in
+      let small : AreSmall (sizes_in closed) = subst AreSmall (sym sizes) l.kept.few in record {
+        sizes = sizes;
+        lawful = record { legal = λ b base. (whole.2 b base).0; events = whole.1 };
+        shows = last_base;
+        openable = record { base = after base v.seen; is_base = now; small = small };
+        phase = now.shows.words.phase ∙ st.phase;
+        start = sym (AreaWordsTell-shown closed.words (after base v.seen) now.sound (subst AreSmall (sym now.shows.sizes) small) now.shows.words).start ∙ st.start;
+      }
 
 -- what is known of the room and the session at the end
 pub few_last : (key : Opening) (words : List ℕ) (v : View) → Last key words v → AreSmall (sizes_in key)
@@ -102,4 +123,4 @@ last_long key words v l =
 pub ends_opened : (key : Opening) (words later : List ℕ) (v : View) (l : Last key words v) → v.opening ≡ key → ((n : ℕ) → n ≤ 12 → HasNumber v n) → length v.vars ≡ 128 → length v.pending ≡ 8
     → IsTableClosed (sizes_in key) words later → (closed : Opening) → closed.shape ≡ key.shape → closed.words ≡ later → closed.vars ≡ v.vars → closed.pending ≡ v.pending → IsClosed v.opening v.seen closed
 ends_opened key words later v l opened all many eight done closed shape is_words is_vars is_pending =
-    subst (λ k. IsClosed k v.seen closed) (sym opened) (ends_closed key words later v l opened all many eight done closed shape is_words is_vars is_pending)
+    subst (λ k. IsClosed k v.seen closed) (sym opened) (ends_closed key words later v l all many eight done closed shape is_words is_vars is_pending)

@@ -11,7 +11,7 @@ use Rattle.entry_base.specs.declared.view.View.{View}
 use Rattle.entry_base.specs.Histories.{IsPhaseHistory, AreTrueAfter}
 use Rattle.entry_base.specs.Lists.{Each, Has}
 use Rattle.entry_base.specs.Numbers.{HasNumber, IsQuiet}
-use Rattle.entry_base.specs.Openings.{IsBase, sizes_in}
+use Rattle.entry_base.specs.Openings.{IsBase, IsOpenable, phase_of, sizes_in, start_of}
 
 -- objects that are within the limit, and what variables hold: 0 or the number of such an object plus 1
 abbrev pub AreWithin : Opening → List ℕ → Type 0
@@ -68,3 +68,7 @@ pub record IsClosed (key : Opening) (h : List Event) (closed : Opening) : Type 0
   pub sizes : sizes_in closed ≡ sizes_in key
   pub lawful : IsPhaseHistory key h
   pub shows : (b : Table) → IsBase key b → IsBase closed (after b h)
+  -- so another phase can be opened with it, in the same cycle and with the same area
+  pub openable : IsOpenable closed
+  pub phase : phase_of closed ≡ phase_of key
+  pub start : start_of closed ≡ start_of key

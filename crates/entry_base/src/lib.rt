@@ -11,12 +11,14 @@
 mod arrays;
 mod chunks;
 mod closing;
+mod images;
 mod plays;
 mod sessions;
 mod table;
 mod view;
 
 pub use chunks::Chunk;
+pub use images::{area_start, owed_objects};
 pub use plays::{Learning, Learns, OneHistory};
 pub use sessions::Session;
 pub use table::{Shared, freelist_place};

@@ -111,6 +111,9 @@ impl Shared {
         requires caller { IsOf self session }
         requires all { (n : ℕ) → n ≤ 12 → HasNumber (view session) n }
         ensures closed { IsClosed (view session).opening (view session).seen (opening_of result) }
+
+        // So the image is lawful.
+        ensures lawful { IsLawful (image_of result) }
     {
         let Shared {
             table,

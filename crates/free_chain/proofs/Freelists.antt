@@ -5,7 +5,7 @@ use Rattle.std.specs.List.Sorted.{IsStrictlyIncreasing}
 use Rattle.std.proofs.lemmas.Bool.{both_ways, cases_lt, not_from_true, not_from_false}
 use Rattle.std.proofs.lemmas.List.Elements.{All-nil, All-cons, Contains-append_cases, Contains-append_left, Contains-append_right, Contains-get_or, Contains-push, Contains-push_cases}
 use Rattle.plain_table.specs.Area.{count_below}
-use Rattle.plain_table.specs.Words.{free_word, freelist_word, next_free}
+use Rattle.plain_table.specs.Words.{free_word, next_free}
 use Rattle.free_chain.specs.Chain.{FreelistsAreChains, IsNextFree, chain, chain_end, link_of}
 use Rattle.free_chain.proofs.NextFree.{IsNextFree-next_free}
 
@@ -160,33 +160,19 @@ module _ (used : ℕ → Bool) (committed : ℕ) (entry : ℕ → ℕ)
       (IsNextFree-next_free used (head + 1) committed (omega (arith, below))))
       (omega (arith, count, same)))
 
--- the walk that a freelist word begins
-IsWalk-list : (used : ℕ → Bool) (committed : ℕ) (entry : ℕ → ℕ) (freelist : ℕ) →
-    ((i : ℕ) → 1 ≤ i → i < committed → used i ≡ false → entry i ≡ free_word (next_free used (i + 1) committed)) →
-    committed < 2 ^ 32 → 1 ≤ committed → used 0 ≡ true →
-    freelist ≡ freelist_word (next_free used 1 committed) (count_below (λ i. not (used i)) committed) →
-    IsWalk used committed entry 1 (freelist % 2 ^ 32) (freelist / 2 ^ 32)
-IsWalk-list used committed entry freelist free most some first list =
-    let next : IsNextFree used 1 committed (next_free used 1 committed) = IsNextFree-next_free used 1 committed some in
-    let head : freelist % 2 ^ 32 ≡ next_free used 1 committed = omega (arith, list, next.within, most) in
-    let len : freelist / 2 ^ 32 ≡ count_below (λ i. not (used i)) committed = omega (arith, list, next.within, most) in
-    let zeroth : one_if (not (used 0)) ≡ 0 = ap one_if (not_from_true (used 0) first) in
-    walk used committed entry free most (freelist / 2 ^ 32) 1 (freelist % 2 ^ 32) (omega arith) some
-    (subst (IsNextFree used 1 committed) (sym head) next) (omega (arith, len, zeroth))
-
--- its chain ends where the committed segments do
-pub chain_end-list : (used : ℕ → Bool) (committed : ℕ) (entry : ℕ → ℕ) (freelist : ℕ) →
-    ((i : ℕ) → 1 ≤ i → i < committed → used i ≡ false → entry i ≡ free_word (next_free used (i + 1) committed)) →
-    committed < 2 ^ 32 → 1 ≤ committed → used 0 ≡ true →
-    freelist ≡ freelist_word (next_free used 1 committed) (count_below (λ i. not (used i)) committed) →
-    chain_end entry (freelist % 2 ^ 32) (freelist / 2 ^ 32) ≡ committed
-chain_end-list used committed entry freelist free most some first list = (IsWalk-list used committed entry freelist free most some first list).last
-
 -- the freelist word of a space that shows a table
 pub IsFreelist-shown : FreelistsAreChains
 IsFreelist-shown s p entry freelist committed shows first few =
+    let used : ℕ → Bool = s.used p in
+    let some : 1 ≤ committed = omega (arith, shows.used 0 first) in
+    let most : committed < 2 ^ 32 = omega (arith, shows.within, few) in
+    let next : IsNextFree (s.used p) 1 committed (next_free (s.used p) 1 committed) = IsNextFree-next_free (s.used p) 1 committed some in
+    let head : freelist % 2 ^ 32 ≡ next_free (s.used p) 1 committed = omega (arith, shows.list, next.within, most) in
+    let len : freelist / 2 ^ 32 ≡ count_below (λ i. not (s.used p i)) committed = omega (arith, shows.list, next.within, most) in
+    let zeroth : one_if (not (s.used p 0)) ≡ 0 = ap one_if (not_from_true (s.used p 0) first) in
     let is : IsWalk (s.used p) committed entry 1 (freelist % 2 ^ 32) (freelist / 2 ^ 32) =
-    IsWalk-list (s.used p) committed entry freelist shows.free (omega (arith, shows.within, few)) (omega (arith, shows.used 0 first)) first shows.list in
+    walk (s.used p) committed entry shows.free most (freelist / 2 ^ 32) 1 (freelist % 2 ^ 32) (omega arith) some
+    (subst (IsNextFree (s.used p) 1 committed) (sym head) next) (omega (arith, len, zeroth)) in
     record {
       ascending = is.ascending;
       members = λ i. (is.inside i, λ free. is.whole i free.0 free.1 free.2);
