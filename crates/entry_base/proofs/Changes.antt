@@ -1,13 +1,13 @@
 -- A step with an event that changes one word: an entry of a used index, or a word before the entries that is no header and
 -- no freelist word. What is left to show for a kind is said of one sound table, in `EntryChanges` and `LowChanges`.
-use Rattle.std.proofs.Common.{◌≡◌, ◌≢◌, ◌⊎◌, ℕ, ◌+◌, ◌*◌, ◌<◌, List, [], ◌∷◌, ◌++◌, set, length, get_or-set_other, Option, Some, IsTrue, IsSome, IfSome, refl, sym, ap, subst, ◌∙◌, inl, inr, arith}
+use Rattle.std.proofs.Common.{◌≡◌, ◌≢◌, ◌⊎◌, ℕ, ◌+◌, ◌*◌, ◌<◌, List, [], ◌∷◌, ◌++◌, set, length, get_or-set_other, Option, IsTrue, IsSome, IfSome, ap, subst, ◌∙◌, inl, inr, arith}
 use mathlib.Core.Option.{some}
 use lib.ListN.{get_elem?}
 use Rattle.plain_table.specs.declared.events.Act.TheVariants.{Link}
 use Rattle.plain_table.specs.declared.events.Event.{Event}
 use Rattle.plain_table.specs.declared.events.Space.{Space}
 use Rattle.plain_table.specs.declared.events.Spot.TheVariants.{Ref}
-use Rattle.plain_table.specs.History.{IsLegal, next, after}
+use Rattle.plain_table.specs.History.{IsLegal, next}
 use Rattle.plain_table.specs.Shows.{Shows}
 use Rattle.plain_table.specs.Table.{Table, Sizes, limit_in}
 use Rattle.plain_table.specs.Words.{entry_place, freelist_place, header_place, no_access_word, words_in_all}

@@ -1,11 +1,10 @@
 -- Classes of change: what a change of one word leaves of the facts about words, by what stands at its place: a header, an
 -- entry of a used index, a freelist word, or another word before the entries; or no word changes.
-use Rattle.std.proofs.Common.{◌≡◌, ◌≢◌, ℕ, ◌+◌, ◌*◌, ◌%◌, ◌<◌, List, length, slice_index, slice_set, get_or-set_same, get_or-set_other, length-set, Option, Some, None, IsTrue, IsSome, IfSome, refl, sym, ap, subst, subst₂, ◌∙◌, inl, inr, arith}
+use Rattle.std.proofs.Common.{◌≡◌, ◌≢◌, ℕ, ◌+◌, ◌*◌, ◌%◌, ◌<◌, List, length, slice_index, slice_set, get_or-set_same, get_or-set_other, Option, Some, None, IsTrue, IsSome, IfSome, refl, sym, ap, subst, subst₂, ◌∙◌, inl, inr, arith}
 use Rattle.std.specs.Prelude.{◌⊎◌}
 use Rattle.std.proofs.lemmas.Bool.Decides.{eqb_tells}
 use Rattle.plain_table.specs.declared.events.Event.{Event}
 use Rattle.plain_table.specs.declared.events.Space.{Space}
-use Rattle.plain_table.specs.declared.events.Space.TheVariants.{External, Trusted}
 use Rattle.plain_table.specs.Cycle.{Cycle}
 use Rattle.plain_table.specs.Table.{Table, Sizes, limit_in}
 use Rattle.plain_table.specs.Words.{freelist_place, header_place, entry_place, words_in_all, no_access_word}

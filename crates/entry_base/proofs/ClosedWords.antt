@@ -1,12 +1,12 @@
 -- At the end a freelist leads to the end of the committed entries, and the words show the table once all after it is closed.
 use Rattle.std.proofs.Common.{◌≡◌, ◌≢◌, ℕ, ◌+◌, ◌-◌, ◌*◌, ◌/◌, ◌%◌, ◌^◌, ◌<◌, ◌≤◌, List, length, slice_index, Option, Some, None, IsTrue, IsSome, refl, sym, ap, ap₂, subst, ◌∙◌, inl, inr, arith, ext_get_or}
-use Rattle.std.proofs.lemmas.Bool.{both_ways, cases_Bool, cases_lt}
+use Rattle.std.proofs.lemmas.Bool.{cases_Bool, cases_lt}
 use Rattle.plain_table.specs.declared.events.Cell.{Cell}
 use Rattle.plain_table.specs.declared.events.Space.{Space}
 use Rattle.plain_table.specs.declared.events.Space.TheVariants.{External, Trusted}
 use Rattle.plain_table.specs.Table.{Table, Sizes, limit_of, limit_in}
 use Rattle.plain_table.specs.Sound.{IsSound}
-use Rattle.plain_table.specs.Words.{freelist_place, entry_place, words_in_all, no_access_word, next_free}
+use Rattle.plain_table.specs.Words.{freelist_place, entry_place, words_in_all, no_access_word}
 use Rattle.plain_table.specs.Shows.{entry_at, SpaceShows, Shows}
 use Rattle.plain_table.specs.Near.{IsNear}
 use Rattle.plain_table.proofs.SpacesShown.{Shows-space, cell-used}

@@ -1,5 +1,5 @@
 -- Colours: headers after a change of one of them, and which objects are grey then.
-use Rattle.std.proofs.Common.{◌≡◌, ◌≢◌, ℕ, ◌%◌, ◌<◌, ◌==◌, nat_lt, if◌then◌else◌, Bool, true, false, List, length, slice_index, slice_set, get_or-set_same, get_or-set_other, bit_or, refl, ap, arith}
+use Rattle.std.proofs.Common.{◌≡◌, ◌≢◌, ℕ, ◌<◌, ◌==◌, nat_lt, if◌then◌else◌, Bool, true, false, List, length, slice_index, slice_set, get_or-set_same, get_or-set_other, bit_or, refl, ap, arith}
 use Rattle.std.proofs.lemmas.Bool.Decides.{nat_tests}
 use Rattle.plain_table.specs.Table.{Sizes}
 use Rattle.plain_table.specs.Words.{header_place, header_word}

@@ -1,15 +1,13 @@
 -- What a join tells its caller: both histories come first, and with each number come its events.
-use Rattle.std.proofs.Common.{◌≡◌, ℕ, ◌+◌, ◌≤◌, ◌<◌, ◌==◌, ◌/◌, nat_lt, Bool, true, false, if◌then◌else◌, List, [], ◌∷◌, ◌++◌, length, refl, sym, ap, subst, ◌∙◌, inl, inr, ⊎_elim, arith, append_assoc, append-nil}
-use Rattle.std.specs.Prelude.{◌⊎◌}
-use Rattle.std.specs.List.{filter}
-use Rattle.std.proofs.lemmas.Bool.Decides.{nat_tests, eqb_tells}
+use Rattle.std.proofs.Common.{◌≡◌, ℕ, ◌+◌, ◌≤◌, ◌==◌, ◌/◌, nat_lt, Bool, true, false, if◌then◌else◌, List, [], ◌∷◌, ◌++◌, length, refl, sym, ap, subst, ◌∙◌, inl, inr, ⊎_elim, arith, append-nil}
+use Rattle.std.proofs.lemmas.Bool.Decides.{eqb_tells}
 use Rattle.plain_table.specs.declared.events.Event.{Event}
 use Rattle.plain_table.specs.Belongs.{events_by}
 use Rattle.entry_base.specs.declared.view.Opening.{Opening}
 use Rattle.entry_base.specs.declared.view.View.{View}
 use Rattle.entry_base.specs.declared.view.Fact.{Fact}
 use Rattle.entry_base.specs.Lists.{StartsWith, Each, Has, count_in, longer, shorter}
-use Rattle.entry_base.specs.Numbers.{HasNumber, IsQuiet}
+use Rattle.entry_base.specs.Numbers.{HasNumber}
 use Rattle.entry_base.specs.Facts.{GoesOn}
 use Rattle.entry_base.specs.Views.{absorber, both, has_number, joined_fact}
 use Rattle.entry_base.specs.Callers.{AreVariables, AreWithin, IsCaller}

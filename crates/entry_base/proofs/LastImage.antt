@@ -1,11 +1,11 @@
 -- The image of a phase that ended.
-use Rattle.std.proofs.Common.{◌≡◌, ℕ, ◌+◌, ◌*◌, ◌<◌, ◌≤◌, zero, suc, List, [], ◌∷◌, None, map, length, slice_index, get_or, Option, sym, ap, ap₂, subst, ◌∙◌, refl, arith, ◌≢◌, set, below_more, get_or-set_other, get_or-set_same, length-set, ext_get_or}
+use Rattle.std.proofs.Common.{◌≡◌, ℕ, ◌+◌, ◌*◌, ◌<◌, ◌≤◌, zero, suc, List, [], ◌∷◌, None, map, length, slice_index, get_or, Option, sym, ap, subst, ◌∙◌, refl, arith, ◌≢◌, set, below_more, get_or-set_other, get_or-set_same, length-set, ext_get_or}
 use Rattle.std.proofs.lemmas.List.{length-map}
 use mathlib.Core.Option.{some, some-injective, some-ne-none}
 use Rattle.plain_table.specs.Words.{words_in_all}
 use lib.ListN.{get_elem?}
 use Rattle.atomic_table.specs.Table.{Final, Seen}
-use Rattle.plain_table.specs.Table.{Table, Sizes}
+use Rattle.plain_table.specs.Table.{Table}
 use Rattle.plain_table.specs.History.{IsLegalHistory, after}
 use Rattle.word_laws.proofs.AreaReads.{AreaWordsTell-shown}
 use Rattle.entry_base.specs.Lists.{Each}

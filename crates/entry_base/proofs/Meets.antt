@@ -1,22 +1,18 @@
 -- The load behind a join.
-use Rattle.std.proofs.Common.{◌≡◌, ℕ, ◌+◌, ◌≤◌, List, [], refl, sym, ap, subst, arith, inl, inr}
+use Rattle.std.proofs.Common.{◌≡◌, ℕ, [], refl, arith, inl, inr}
 use Rattle.std.proofs.lemmas.Bool.{cases_lt}
-use Rattle.std.specs.Prelude.{◌⊎◌}
-use mathlib.Core.Option.{none, some}
-use lib.ListN.{get_elem?}
+use mathlib.Core.Option.{none}
 use Rattle.atomic_table.specs.Table.{Allows, Me, step}
-use Rattle.plain_table.specs.declared.events.Event.{Event}
 use Rattle.entry_base.specs.declared.view.Opening.{Opening}
 use Rattle.entry_base.specs.declared.view.View.{View}
-use Rattle.entry_base.specs.declared.view.Fact.{Fact}
 use Rattle.entry_base.specs.declared.view.Fact.TheVariants as fact
-use Rattle.entry_base.specs.Lists.{Has, count_in}
-use Rattle.entry_base.specs.Facts.{IsKnown, GoesOn}
-use Rattle.entry_base.specs.Rule.{Kept, Ruled}
+use Rattle.entry_base.specs.Lists.{count_in}
+use Rattle.entry_base.specs.Facts.{IsKnown}
+use Rattle.entry_base.specs.Rule.{Ruled}
 use Rattle.entry_base.specs.Openings.{sizes_in}
-use Rattle.entry_base.specs.Learned.{Loaded, Met, meets}
+use Rattle.entry_base.specs.Learned.{meets}
 use Rattle.entry_base.proofs.Sums.{among, each_has}
-use Rattle.entry_base.proofs.Steps.{Given, given, allows, loads}
+use Rattle.entry_base.proofs.Steps.{given, allows, loads}
 use Rattle.plain_table.specs.History.{after}
 use Rattle.entry_base.proofs.QuietSteps.{looker, kept_look}
 

@@ -1,11 +1,10 @@
 -- The opening meets the rule.
-use Rattle.std.proofs.Common.{◌≡◌, ◌≢◌, ℕ, zero, suc, ◌+◌, ◌*◌, ◌%◌, ◌^◌, ◌<◌, ◌≤◌, ◌==◌, nat_lt, if◌then◌else◌, Bool, true, false, List, [], ◌∷◌, ◌++◌, map, length, slice_index, ◌/◌, get_or, Option, Some, None, unwrap_or, IsTrue, IsSome, refl, sym, ap, subst, ◌∙◌, inl, inr, arith, eq-eqb, ne_eqb}
+use Rattle.std.proofs.Common.{◌≡◌, ◌≢◌, ℕ, zero, suc, ◌+◌, ◌*◌, ◌%◌, ◌<◌, ◌≤◌, ◌==◌, nat_lt, if◌then◌else◌, Bool, true, false, List, [], ◌∷◌, map, length, slice_index, ◌/◌, get_or, Option, Some, None, refl, sym, ap, subst, ◌∙◌, inl, inr, arith, eq-eqb, ne_eqb}
 use Rattle.std.proofs.lemmas.Bool.{cases_lt}
 use Rattle.std.proofs.lemmas.Bool.Decides.{eqb_tells, nat_tests}
 use mathlib.Core.Option.{some, some-injective, some-ne-none}
 use lib.ListN.{get_elem?}
-use Rattle.plain_table.specs.Table.{Table, Sizes, limit_of}
-use Rattle.plain_table.specs.Sound.{IsSound}
+use Rattle.plain_table.specs.Table.{Table, Sizes}
 use Rattle.plain_table.specs.Cycle.{Cycle}
 use Rattle.plain_table.specs.Words.{header_place, object_word, phase_word}
 use Rattle.plain_table.specs.Shows.{IsPending}

@@ -1,5 +1,5 @@
 -- Lists that are filled or picked place by place.
-use Rattle.std.proofs.Common.{◌≡◌, ◌≢◌, ℕ, zero, suc, ◌+◌, ◌<◌, ◌≤◌, Bool, true, false, if◌then◌else◌, List, [], ◌∷◌, length, get_or, set, refl, sym, ap, ◌∙◌, arith, below_more, get_or-set_other, get_or-set_same, length-set, ext_get_or}
+use Rattle.std.proofs.Common.{◌≡◌, ◌≢◌, ℕ, ◌+◌, ◌<◌, ◌≤◌, Bool, true, false, if◌then◌else◌, List, [], ◌∷◌, length, get_or, set, refl, sym, ap, ◌∙◌, arith, below_more, get_or-set_other, get_or-set_same, length-set, ext_get_or}
 use Rattle.entry_base.specs.Views.{pick_from}
 use Rattle.entry_base.proofs.JoinKeeps.{pick_read}
 

@@ -1,12 +1,12 @@
 -- Steps that change no word: a load without an event, which only tells facts, and a load with an event that writes no word.
-use Rattle.std.proofs.Common.{◌≡◌, ℕ, ◌+◌, ◌<◌, List, [], ◌∷◌, ◌++◌, set, Option, refl, sym, ap, subst, inl, inr}
+use Rattle.std.proofs.Common.{◌≡◌, ℕ, ◌+◌, List, [], ◌∷◌, ◌++◌, set, Option, refl, ap, subst, inl, inr}
 use mathlib.Core.Option.{some}
 use lib.ListN.{get_elem?}
 use Rattle.plain_table.specs.declared.events.Act.TheVariants.{Link}
 use Rattle.plain_table.specs.declared.events.Event.{Event}
 use Rattle.plain_table.specs.declared.events.Space.{Space}
 use Rattle.plain_table.specs.declared.events.Spot.TheVariants.{Ref}
-use Rattle.plain_table.specs.Table.{Table, Sizes}
+use Rattle.plain_table.specs.Table.{Table}
 use Rattle.plain_table.specs.History.{IsLegal, next}
 use Rattle.table_laws.specs.Steady.{IsBeside}
 use Rattle.word_laws.specs.WordLaws.{WritesNothing}
@@ -24,7 +24,7 @@ use Rattle.entry_base.specs.Owns.{Owns}
 use Rattle.entry_base.specs.Rule.{Kept}
 use Rattle.entry_base.specs.Openings.{sizes_in}
 use Rattle.entry_base.specs.Callers.{Looks, Extends}
-use Rattle.entry_base.proofs.Steps.{Given, Adds, held_within, takes_same, sees, adds}
+use Rattle.entry_base.proofs.Steps.{Given, Adds, takes_same, sees, adds}
 use Rattle.entry_base.proofs.Classes.{covered_event, references_same, still}
 use Rattle.word_laws.specs.CoverLaws.{HasSameReferences}
 

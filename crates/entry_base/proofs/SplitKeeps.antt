@@ -9,13 +9,12 @@ use Rattle.plain_table.specs.Table.{Table}
 use Rattle.entry_base.specs.declared.view.Opening.{Opening}
 use Rattle.entry_base.specs.declared.view.View.{View}
 use Rattle.entry_base.specs.declared.view.Claim.{Claim}
-use Rattle.entry_base.specs.Lists.{StartsWith, Each, total, count_in, without_one, AreIn, without_all}
+use Rattle.entry_base.specs.Lists.{Each, total, count_in, without_one, AreIn, without_all}
 use Rattle.entry_base.specs.Numbers.{HasNumber, Stands}
 use Rattle.entry_base.specs.Owns.{Owns}
 use Rattle.entry_base.specs.Rule.{Kept, Ruled}
 use Rattle.entry_base.specs.Views.{claims_but, giver, newcomer, cutter, chunk_view}
 use Rattle.entry_base.proofs.Sums.{total_set, total_append, views_set, each_map, count_without}
-
 
 pub count_all : (ns ms : List ℕ) → AreIn ns ms → (m : ℕ) → count_in m (without_all ns ms) + count_in m ns ≡ count_in m ms
 count_all [] ms h m = omega arith

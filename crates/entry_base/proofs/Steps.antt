@@ -23,7 +23,7 @@ use Rattle.table_laws.proofs.Steadiness.{events-steady}
 use Rattle.entry_base.specs.declared.view.Opening.{Opening}
 use Rattle.entry_base.specs.declared.view.View.{View}
 use Rattle.entry_base.specs.declared.view.Fact.{Fact}
-use Rattle.entry_base.specs.Lists.{StartsWith, Each, total, count_in}
+use Rattle.entry_base.specs.Lists.{Each, total, count_in}
 use Rattle.entry_base.specs.Ranks.{takes_of, takes_in}
 use Rattle.entry_base.specs.Facts.{IsKnown}
 use Rattle.entry_base.specs.Numbers.{HasNumber, IsPhaseEvent, Stands}
@@ -32,9 +32,9 @@ use Rattle.entry_base.specs.Owns.{Owns}
 use Rattle.plain_table.specs.Near.{IsNear}
 use Rattle.entry_base.specs.Rule.{StateKept, Kept, Ruled}
 use Rattle.entry_base.specs.Openings.{IsBase, start_of, phase_of, sizes_in}
-use Rattle.entry_base.specs.Histories.{AreTrueOf, IsPhaseHistory}
+use Rattle.entry_base.specs.Histories.{AreTrueOf}
 use Rattle.entry_base.specs.Callers.{Looks, Extends}
-use Rattle.entry_base.proofs.Sums.{total_set, among, both_among, views_set, each_map, each_append, starts_trans}
+use Rattle.entry_base.proofs.Sums.{total_set, among, both_among, views_set, each_map, each_append}
 use Rattle.entry_base.proofs.FactsStay.{WordsSteady, StaysLinked, fact_stays}
 use Rattle.entry_base.proofs.OwnsStay.{owns_other}
 
@@ -233,7 +233,7 @@ module _ (key : Opening) (words now : List ℕ) (views : List View) (id : ℕ) (
             let left = step (after b k.log) g in
             let st = state_left (after b k.log) (k.states b is).state left in
             subst (λ l. AreTrueOf v.opening w.facts (after b l)) (sym seen) (subst (λ o. AreTrueOf o w.facts (after b k.log)) (sym opened)
-                (record { sizes = st.sizes; sound = st.sound; phase = st.phase; start = st.start; knows = each_map _ _ w.facts (λ f x. x.0) (st.known id w at_set) }));
+            (record { sizes = st.sizes; sound = st.sound; phase = st.phase; start = st.start; knows = each_map _ _ w.facts (λ f x. x.0) (st.known id w at_set) }));
       },
     )
 
@@ -287,10 +287,10 @@ module _ (key : Opening) (words now : List ℕ) (views : List View) (id : ℕ) (
           events = events_after;
           stands = views_set (λ j u. Stands (k.log ++ e ∷ []) u) views id w stands_other
               (record {
-            rest = [];
-            seen = sym seen ∙ sym (append-nil w.seen);
-            quiet = tt;
-          });
+                rest = [];
+                seen = sym seen ∙ sym (append-nil w.seen);
+                quiet = tt;
+              });
         };
         hands = hands_set (sizes_in key) k.shown later views id v w at k.hands hands;
         states = λ b base.
@@ -314,12 +314,12 @@ module _ (key : Opening) (words now : List ℕ) (views : List View) (id : ℕ) (
             let is : IsBase key b = subst (λ o. IsBase o b) opened base in
             let g = given key words views id v k at b is in
             subst (λ l. AreTrueOf v.opening v.facts (after b l)) mine.seen (subst (λ o. AreTrueOf o v.facts (after b k.log)) (sym opened)
-                (record { sizes = g.sizes; sound = g.sound; phase = g.phase; start = g.start; knows = each_map _ _ v.facts (λ f x. x.0) g.known }));
+            (record { sizes = g.sizes; sound = g.sound; phase = g.phase; start = g.start; knows = each_map _ _ v.facts (λ f x. x.0) g.known }));
         sure = λ b base.
             let is : IsBase key b = subst (λ o. IsBase o b) opened base in
             let st = state_added (after b k.log) (k.states b is).state (step (after b k.log) (given key words views id v k at b is)) in
             subst (λ l. AreTrueOf v.opening w.facts (after b l)) (sym seen) (subst (AreTrueOf v.opening w.facts) (sym (after_snoc b k.log e)) (subst (λ o. AreTrueOf o w.facts (next (after b k.log) e)) (sym opened)
-                (record { sizes = st.sizes; sound = st.sound; phase = st.phase; start = st.start; knows = each_map _ _ w.facts (λ f x. x.0) (st.known id w at_set) })));
+            (record { sizes = st.sizes; sound = st.sound; phase = st.phase; start = st.start; knows = each_map _ _ w.facts (λ f x. x.0) (st.known id w at_set) })));
       },
     )
 

@@ -1,5 +1,5 @@
 -- One link of a walk.
-use Rattle.std.proofs.Common.{◌≡◌, ◌≢◌, ℕ, zero, suc, ◌+◌, ◌-◌, ◌<◌, ◌≤◌, ◌%◌, ◌^◌, List, length, slice_index, get_or, sym, ap, ◌∙◌, refl, arith, inl, inr, ⊎_elim, set, length-set, get_or-set_other, get_or-set_same}
+use Rattle.std.proofs.Common.{◌≡◌, ℕ, suc, ◌+◌, ◌-◌, ◌<◌, ◌≤◌, ◌%◌, ◌^◌, List, length, slice_index, get_or, sym, ap, ◌∙◌, arith, inl, inr, ⊎_elim, set, length-set, get_or-set_other, get_or-set_same}
 use Rattle.std.proofs.lemmas.List.{get_or_past}
 use Rattle.std.proofs.lemmas.Bool.{cases_lt}
 use Rattle.std.specs.Prelude.{◌⊎◌}

@@ -1,7 +1,7 @@
 -- What a view knows of entries, fields and objects. Each fact is steady: no step of a phase ends it. It is said of the table
 -- after the history alone (`TableKnows`), or of the words too (`WordsKnow`): `shown` show that table, and `words` are the
 -- present ones, which are near them.
-use Rattle.std.specs.Prelude.{◌≡◌, ◌≢◌, ◌⊎◌, ℕ, ◌+◌, ◌<◌, ◌≤◌, false, List, ◌++◌, slice_index, Some, IsTrue, IsSome, IsSomeAnd, IfSome}
+use Rattle.std.specs.Prelude.{◌≡◌, ◌≢◌, ◌⊎◌, ℕ, ◌<◌, ◌≤◌, false, List, ◌++◌, slice_index, Some, IsTrue, IsSome, IsSomeAnd, IfSome}
 use Rattle.plain_table.specs.declared.events.Event.{Event}
 use Rattle.plain_table.specs.declared.events.Field.{Field}
 use Rattle.plain_table.specs.declared.events.Space.TheVariants.{Trusted}

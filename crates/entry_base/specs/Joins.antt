@@ -1,6 +1,6 @@
 -- What a join and an absorption leave: both histories come first, and the events of each number are those that its
 -- session had seen, so the calls of an ended number are kept.
-use Rattle.std.specs.Prelude.{◌≡◌, ◌⊎◌, ℕ, List, ◌++◌}
+use Rattle.std.specs.Prelude.{◌≡◌, ◌⊎◌, ℕ, ◌++◌}
 use Rattle.plain_table.specs.Belongs.{events_by}
 use Rattle.entry_base.specs.declared.view.Fact.{Fact}
 use Rattle.entry_base.specs.declared.view.View.{View}

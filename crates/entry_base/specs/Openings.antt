@@ -1,6 +1,6 @@
 -- The image that a phase was opened with, as a view keeps it, and the tables that the phase may have begun in: each sound
 -- one that the image shows and is covered in. What the rule says, it says of each of them, since no word tells which it was.
-use Rattle.std.specs.Prelude.{◌≡◌, ℕ, zero, suc, ◌%◌, ◌^◌, ◌==◌, if◌then◌else◌, List, [], ◌∷◌, ◌++◌, map, slice_index, Option, Some, None}
+use Rattle.std.specs.Prelude.{ℕ, zero, suc, ◌%◌, ◌^◌, ◌==◌, if◌then◌else◌, List, [], ◌∷◌, ◌++◌, map, slice_index, Option, Some, None}
 use Rattle.std.specs.Option.{option_map}
 use Rattle.plain_table.specs.Table.{Table, Sizes}
 use Rattle.plain_table.specs.Sound.{IsSound}

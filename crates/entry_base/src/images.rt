@@ -10,7 +10,9 @@ use std::alloc::Global;
 
 /// The place of the area word, and that of an object's header.
 const AREA: usize = 1;
+
 const FIRST_HEADER: usize = 32;
+
 const OBJECT_WORDS: usize = 8;
 /// The header of an object that is shaded and not scanned.
 const GREY: u64 = 1;

@@ -101,10 +101,7 @@ impl Session {
         ensures right { view result ≡ newcomer number owed.now (view self.old) }
     {
         let _given = owed.len();
-        let seat = shared
-            .table
-            .shared
-            .split_seat::<Gives<N>>(&mut self.seat);
+        let seat = shared.table.shared.split_seat::<Gives<N>>(&mut self.seat);
         self.numbers[number as usize] = false;
         let mut numbers = [false; 13];
         numbers[number as usize] = true;
@@ -168,10 +165,7 @@ impl Session {
         ensures right { hands_of result ≡ chunk_view objects.items (view self.old) }
         ensures objects { result.objects.items ≡ objects.items }
     {
-        let seat = shared
-            .table
-            .shared
-            .split_seat::<Cuts<N>>(&mut self.seat);
+        let seat = shared.table.shared.split_seat::<Cuts<N>>(&mut self.seat);
         Chunk { seat, objects }
     }
 

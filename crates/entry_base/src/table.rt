@@ -20,6 +20,7 @@ use std::alloc::Global;
 const PHASE: usize = 4;
 /// The words before those of objects, and the words of an object.
 const FIRST_WORDS: usize = 32;
+
 const OBJECT_WORDS: usize = 8;
 
 /// The open table of a phase, which threads share through a `&`. Its public fields are for the crates of steps.

@@ -1,5 +1,5 @@
-use Rattle.std.proofs.Common.{◌≡◌, ◌≤◌, ◌/◌, arith, false, get_or, None, length}
-use Rattle.entry_base.proofs.Picks.{copied_all, picked_all}
+use Rattle.std.proofs.Common.{arith, None}
+use Rattle.entry_base.proofs.Picks.{copied_all}
 use Rattle.entry_base.proofs.arrays.array_of_pending.Goals as goal
 
 pub returns : goal.returns

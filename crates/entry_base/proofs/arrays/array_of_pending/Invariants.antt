@@ -1,5 +1,5 @@
-use Rattle.std.proofs.Common.{◌≡◌, ◌/◌, ◌-◌, ◌<◌, ◌^◌, false, length, get_or, ℕ, None, Option}
-use Rattle.entry_base.proofs.Picks.{Copied, Picked}
+use Rattle.std.proofs.Common.{None}
+use Rattle.entry_base.proofs.Picks.{Copied}
 use Rattle.entry_base.proofs.arrays.array_of_pending.Given as goal
 
 abbrev pub invariant-loop-i : goal.invariant-loop-i

@@ -1,4 +1,3 @@
-use Rattle.std.proofs.Common.{None}
 use Rattle.entry_base.proofs.Picks.{Copied}
 use Rattle.entry_base.proofs.arrays.copy_vars.Given as goal
 

@@ -1,5 +1,5 @@
-use Rattle.std.proofs.Common.{◌≡◌, ◌≤◌, ◌/◌, arith, false, get_or, None, length}
-use Rattle.entry_base.proofs.Picks.{copied_all, picked_all}
+use Rattle.std.proofs.Common.{arith, false, get_or}
+use Rattle.entry_base.proofs.Picks.{picked_all}
 use Rattle.entry_base.proofs.arrays.pick_numbers.Goals as goal
 
 pub returns : goal.returns

@@ -1,4 +1,4 @@
-use Rattle.std.proofs.Common.{◌≡◌, ◌≤◌, ◌<◌, refl, arith}
+use Rattle.std.proofs.Common.{refl, arith}
 use Rattle.entry_base.proofs.WalkStep.{closing_more, closing_all}
 use Rattle.entry_base.proofs.closing.close_from.Goals as goal
 

@@ -1,4 +1,4 @@
-use Rattle.std.proofs.Common.{◌≡◌, ◌≤◌, ◌<◌, refl, arith}
+use Rattle.std.proofs.Common.{arith}
 use Rattle.plain_table.specs.declared.events.Space.TheVariants.{External, Trusted}
 use Rattle.entry_word.specs.Image.{sizes_of}
 use Rattle.entry_base.proofs.ClosedWords.{table_closed}

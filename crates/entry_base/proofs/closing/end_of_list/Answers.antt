@@ -1,5 +1,4 @@
-use Rattle.std.proofs.Common.{◌≡◌, ◌+◌, ◌-◌, ◌<◌, ◌%◌, ◌^◌, ℕ, suc, sym, ap, ◌∙◌, arith, slice_index, get_or, List}
-use Rattle.entry_base.specs.Closing.{walk}
+use Rattle.std.proofs.Common.{◌∙◌, arith}
 use Rattle.entry_base.proofs.WalkStep.{walk_more, walk_past}
 use Rattle.entry_base.proofs.closing.end_of_list.Goals as goal
 use Rattle.entry_base.proofs.closing.end_of_list.Goals.{then-place-words, else-place-words}

@@ -1,4 +1,4 @@
-use Rattle.std.proofs.Common.{◌≡◌, ◌∙◌, ◌<◌, sym, ap, subst, arith}
+use Rattle.std.proofs.Common.{◌∙◌, ap, subst, arith}
 use Rattle.entry_base.specs.Openings.{opening_of}
 use Rattle.entry_base.specs.Views.{absorber}
 use Rattle.entry_base.specs.Learned.{Met}
@@ -38,6 +38,8 @@ returns-clause-absorbed c =
 pub returns-clause-caller : goal.returns-clause-caller
 returns-clause-caller c =
     let e = c.join_seat.ensures in
-    let r = c.requires in
-    (c.load.ensures.0 ∙ (e.0 ∙ r.caller.0), absorbed_calls (opening_of c.args.shared.now.table.shared.key) c.args.self.now.seat.me.0 c.args.chunk.seat.me.0 c.load.new.seat.me.0 r.caller.1 r.chunk.1.hands
-        (absorbed c.args.self.now.seat.me.0 c.args.chunk.seat.me.0 c.load.new.seat.me.0 r.chunk.1.numbers (subst (λ v. Met v c.load.new.seat.me.0) (ap (λ m. m.0) e.2) c.load.ensures.2.0)))
+    let r = c.requires in (
+      c.load.ensures.0 ∙ (e.0 ∙ r.caller.0),
+      absorbed_calls (opening_of c.args.shared.now.table.shared.key) c.args.self.now.seat.me.0 c.args.chunk.seat.me.0 c.load.new.seat.me.0 r.caller.1 r.chunk.1.hands
+          (absorbed c.args.self.now.seat.me.0 c.args.chunk.seat.me.0 c.load.new.seat.me.0 r.chunk.1.numbers (subst (λ v. Met v c.load.new.seat.me.0) (ap (λ m. m.0) e.2) c.load.ensures.2.0)),
+    )

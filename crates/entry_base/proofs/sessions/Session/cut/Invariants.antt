@@ -1,4 +1,3 @@
-use Rattle.std.specs.Prelude.{ℕ}
 use Rattle.entry_base.proofs.sessions.Session.cut.Given as goal
 
 abbrev pub ghosts-cut_as : goal.ghosts-cut_as

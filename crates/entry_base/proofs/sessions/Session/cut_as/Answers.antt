@@ -1,8 +1,7 @@
-use Rattle.std.proofs.Common.{◌≡◌, ◌∙◌, ◌<◌, sym, ap, subst, arith, List, ℕ, refl}
+use Rattle.std.proofs.Common.{◌≡◌, ◌∙◌, sym, ap, subst, arith, List, ℕ}
 use Rattle.entry_base.specs.Openings.{opening_of}
 use Rattle.entry_base.specs.Callers.{IsCaller}
 use Rattle.entry_base.specs.Sessions.{IsPart}
-use Rattle.entry_base.specs.Tied.{IsTied}
 use Rattle.entry_base.specs.Views.{chunk_view, cutter}
 use Rattle.entry_base.proofs.TiedParts.{cut_calls, cuts_as, tied_stays}
 use Rattle.entry_base.proofs.sessions.Session.cut_as.Goals as goal

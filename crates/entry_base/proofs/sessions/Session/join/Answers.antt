@@ -1,4 +1,4 @@
-use Rattle.std.proofs.Common.{◌≡◌, ◌∙◌, ◌<◌, sym, ap, subst, arith}
+use Rattle.std.proofs.Common.{◌∙◌, ap, subst, arith}
 use Rattle.entry_base.specs.Openings.{opening_of}
 use Rattle.entry_base.specs.Views.{both}
 use Rattle.entry_base.specs.Learned.{Met}
@@ -13,9 +13,14 @@ join_seat-requires c =
     let r = c.requires in
     let sized = c.args.shared.now.sized in
     let mine = c.args.self.now.tied in
-    let theirs = c.args.other.tied in
-    (r.callers.0.0, r.callers.1.0, c.args.other.bare, omega arith, joins (opening_of c.args.shared.now.table.shared.key) c.args.self.now.seat.id c.args.self.now.seat.me.0 c.args.other.seat.id c.args.other.seat.me.0
-        (record { vars = mine.many; pending = mine.eight }) (record { vars = theirs.many; pending = theirs.eight }))
+    let theirs = c.args.other.tied in (
+      r.callers.0.0,
+      r.callers.1.0,
+      c.args.other.bare,
+      omega arith,
+      joins (opening_of c.args.shared.now.table.shared.key) c.args.self.now.seat.id c.args.self.now.seat.me.0 c.args.other.seat.id c.args.other.seat.me.0
+          (record { vars = mine.many; pending = mine.eight }) (record { vars = theirs.many; pending = theirs.eight }),
+    )
 
 pub load-requires : goal.load-requires
 load-requires c =
@@ -41,6 +46,8 @@ returns-clause-joined c =
 pub returns-clause-caller : goal.returns-clause-caller
 returns-clause-caller c =
     let e = c.join_seat.ensures in
-    let r = c.requires in
-    (c.load.ensures.0 ∙ (e.0 ∙ r.callers.0.0), joined_calls (opening_of c.args.shared.now.table.shared.key) c.args.self.now.seat.me.0 c.args.other.seat.me.0 c.load.new.seat.me.0 r.callers.0.1 r.callers.1.1
-        (joined c.args.self.now.seat.me.0 c.args.other.seat.me.0 c.load.new.seat.me.0 (subst (λ v. Met v c.load.new.seat.me.0) (ap (λ m. m.0) e.2) c.load.ensures.2.0)))
+    let r = c.requires in (
+      c.load.ensures.0 ∙ (e.0 ∙ r.callers.0.0),
+      joined_calls (opening_of c.args.shared.now.table.shared.key) c.args.self.now.seat.me.0 c.args.other.seat.me.0 c.load.new.seat.me.0 r.callers.0.1 r.callers.1.1
+          (joined c.args.self.now.seat.me.0 c.args.other.seat.me.0 c.load.new.seat.me.0 (subst (λ v. Met v c.load.new.seat.me.0) (ap (λ m. m.0) e.2) c.load.ensures.2.0)),
+    )

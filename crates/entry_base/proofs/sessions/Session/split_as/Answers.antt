@@ -1,7 +1,7 @@
-use Rattle.std.proofs.Common.{◌≡◌, ◌∙◌, ◌<◌, refl, replicate, false, sym, ap, subst, arith}
+use Rattle.std.proofs.Common.{◌∙◌, refl, replicate, false, sym, ap, subst, arith}
 use Rattle.entry_base.specs.Openings.{opening_of}
 use Rattle.entry_base.specs.Tied.{IsTied}
-use Rattle.entry_base.proofs.TiedParts.{blank, tied_giver, tied_newcomer, splits_as, SplitLeaves, split_leaves}
+use Rattle.entry_base.proofs.TiedParts.{blank, tied_giver, tied_newcomer, splits_as, split_leaves}
 use Rattle.entry_base.proofs.sessions.Session.split_as.Goals as goal
 
 pub split_seat-seat-requires : goal.split_seat-seat-requires
