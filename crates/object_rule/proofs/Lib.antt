@@ -1,0 +1,14 @@
+pub mod Held
+pub mod HeldFields
+pub mod CountLoads
+pub mod NewObjects
+pub mod ObjectsMade
+pub mod VariableSets
+pub mod VariableGets
+pub mod References
+pub mod FieldNames
+pub mod BindSteps
+pub mod FieldBinds
+pub mod TrustedBinds
+pub mod SharedBinds
+pub mod Forges

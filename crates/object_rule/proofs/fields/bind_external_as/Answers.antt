@@ -1,0 +1,38 @@
+use Rattle.std.proofs.Common.{◌==◌, ◌∙◌, refl, arith}
+use prog.Atomic.{either}
+use Rattle.plain_table.specs.declared.events.Field.TheVariants as field
+use Rattle.plain_table.specs.Places.{object_of}
+use Rattle.entry_base.proofs.Steps.{learned_at}
+use Rattle.entry_base.proofs.OneByOne.{caller_same, held_within_limit}
+use Rattle.entry_base.proofs.TiedParts.{tied_stays}
+use Rattle.object_rule.specs.Fields.{Bound}
+use Rattle.object_rule.proofs.FieldBinds.{binds}
+use Rattle.object_rule.proofs.fields.bind_external_as.Goals as goal
+
+pub compare_exchange-requires : goal.compare_exchange-requires
+compare_exchange-requires g c =
+    let r = c.requires in
+    let sized = c.args.shared.now.sized in
+    let limits = c.args.shared.now.limits in
+    let made = c.args.shared.now.made in
+    let object_low = held_within_limit _ c.args.s.now.seat.me.0 r.held.0 (object_of (field.External c.args.number)) r.caller.1 r.held.1 in (
+      r.caller.0,
+      omega (arith, object_low),
+      learned_at _ _ _ c.args.s.now.seat.me _ _ (λ n. either (n == 0) c.args.word n) _ (λ found w. Bound c.args.s.now.seat.me.0 (field.External c.args.number) c.args.word found w) _ (refl) (λ n. refl) (λ n w learned. (r.picked n c.args.s.now.seat.me.0 w).1 learned)
+          (binds _ _ _ c.args.s.now.seat.me c.args.number c.args.word r.caller.1 r.mutator r.held r.filled (omega arith)),
+    )
+
+pub invariant_of-s : goal.invariant_of-s
+invariant_of-s g c =
+    let r = c.requires in
+    let t : Bound c.args.s.now.seat.me.0 (field.External c.args.number) c.args.word c.compare_exchange.result c.compare_exchange.new.seat.me.0 = (r.picked _ c.args.s.now.seat.me.0 _).0 c.compare_exchange.ensures.2.0 in
+    record {
+      bare = c.compare_exchange.ensures.2.1 ∙ c.args.s.now.bare;
+      tied = tied_stays c.args.s.now.seat.me.0 _ _ (t.same).opening (t.same).number (t.same).numbers (t.rest.0) (t.rest.1) c.args.s.now.tied;
+    }
+
+pub returns-clause-caller : goal.returns-clause-caller
+returns-clause-caller g c =
+    let r = c.requires in
+    let t : Bound c.args.s.now.seat.me.0 (field.External c.args.number) c.args.word c.compare_exchange.result c.compare_exchange.new.seat.me.0 = (r.picked _ c.args.s.now.seat.me.0 _).0 c.compare_exchange.ensures.2.0 in
+    (c.compare_exchange.ensures.0 ∙ r.caller.0, caller_same _ c.args.s.now.seat.me.0 _ r.caller.1 (t.same) (t.extends.lawful) (t.rest.0) (t.rest.3))
