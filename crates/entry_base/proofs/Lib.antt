@@ -6,6 +6,9 @@ pub mod Greys
 pub mod Steps
 pub mod QuietSteps
 pub mod Changes
+pub mod Claims
+pub mod EntryTells
+pub mod HandTells
 pub mod OneByOne
 pub mod OpenKeeps
 pub mod SplitKeeps

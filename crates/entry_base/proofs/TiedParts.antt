@@ -216,9 +216,9 @@ pub record SplitLeaves (key : Opening) (n : ℕ) (objects : List ℕ) (v left ri
   pub left_calls : IsCaller key left
   pub right_calls : IsCaller key right
 
-pub split_leaves : (key : Opening) (v left right : View) (m n : ℕ) (given objects : List ℕ) → m ≡ n → given ≡ objects → IsCaller key v → HasNumber v n → n ≢ v.number → AreIn objects v.hands
-    → left ≡ giver m given v → right ≡ newcomer m given v → SplitLeaves key n objects v left right
-split_leaves key v left right m n given objects same all is has ne are l r =
+pub split_leaves : (key : Opening) (v left right : View) (m n : ℕ) (some objects : List ℕ) → m ≡ n → some ≡ objects → IsCaller key v → HasNumber v n → n ≢ v.number → AreIn objects v.hands
+    → left ≡ giver m some v → right ≡ newcomer m some v → SplitLeaves key n objects v left right
+split_leaves key v left right m n some objects same all is has ne are l r =
     let both_calls = given_number key n objects v is has ne are in
     let l' : left ≡ giver n objects v = l ∙ ap₂ (λ x (y : List ℕ). giver x y v) same all in
     let r' : right ≡ newcomer n objects v = r ∙ ap₂ (λ x (y : List ℕ). newcomer x y v) same all in

@@ -1,0 +1,9 @@
+pub mod WordsWritten
+pub mod FoundEntries
+pub mod EntryPuts
+pub mod Evacuations
+pub mod Aborts
+pub mod AreaLoads
+pub mod EntryLooks
+pub mod EntryStores
+pub mod Publishes

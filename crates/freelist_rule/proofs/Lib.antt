@@ -1,0 +1,5 @@
+pub mod FoundFreelists
+pub mod FreelistLoads
+pub mod HeadTakes
+pub mod EntryLinks
+pub mod SegmentCommits

@@ -1,0 +1,2 @@
+pub mod Freelists
+pub mod Segments

@@ -1,0 +1,10 @@
+pub mod FactLoads
+pub mod EmptyIndexes
+pub mod MarkEvents
+pub mod WordLoads
+pub mod ReferenceLoads
+pub mod EntryLoads
+pub mod EntryMarks
+pub mod Headers
+pub mod Shading
+pub mod Scans

@@ -1,0 +1,36 @@
+use Rattle.std.proofs.Common.{◌∙◌, refl}
+use Rattle.entry_base.specs.Passed.{field_of}
+use Rattle.entry_base.proofs.Steps.{learned_at}
+use Rattle.entry_base.proofs.OneByOne.{caller_same}
+use Rattle.entry_base.proofs.TiedParts.{tied_stays}
+use Rattle.mark_rule.specs.Marking.{EntryLoaded}
+use Rattle.mark_rule.proofs.EntryLoads.{loads_entry}
+use Rattle.mark_rule.proofs.loads.load_entry_as.Goals as goal
+
+pub load-requires : goal.load-requires
+load-requires g c =
+    let r = c.requires in
+    let sized = c.args.shared.now.sized in
+    let limits = c.args.shared.now.limits in
+    let made = c.args.shared.now.made in
+    (
+      r.caller.0,
+      c.entry_place.ensures.inside,
+      learned_at _ _ _ c.args.s.now.seat.me _ _ (λ n. n) _ (λ found w. EntryLoaded c.args.s.now.seat.me.0 (field_of c.args.object c.args.f) c.args.word found w) _ (c.entry_place.ensures.place) (λ n. refl) (λ n w learned. (r.picked n c.args.s.now.seat.me.0 w).1 learned)
+      (loads_entry _ _ _ c.args.s.now.seat.me (field_of c.args.object c.args.f) c.args.word c.args.space r.spaced r.caller.1 r.inside r.touched r.may),
+    )
+
+pub invariant_of-s : goal.invariant_of-s
+invariant_of-s g c =
+    let r = c.requires in
+    let t : EntryLoaded c.args.s.now.seat.me.0 (field_of c.args.object c.args.f) c.args.word c.load.result c.load.new.seat.me.0 = (r.picked _ c.args.s.now.seat.me.0 _).0 c.load.ensures.2.0 in
+    record {
+      bare = c.load.ensures.2.1 ∙ c.args.s.now.bare;
+      tied = tied_stays c.args.s.now.seat.me.0 _ _ (t.loaded.same).opening (t.loaded.same).number (t.loaded.same).numbers (t.loaded.own.vars) (t.loaded.own.pending) c.args.s.now.tied;
+    }
+
+pub returns-clause-caller : goal.returns-clause-caller
+returns-clause-caller g c =
+    let r = c.requires in
+    let t : EntryLoaded c.args.s.now.seat.me.0 (field_of c.args.object c.args.f) c.args.word c.load.result c.load.new.seat.me.0 = (r.picked _ c.args.s.now.seat.me.0 _).0 c.load.ensures.2.0 in
+    (c.load.ensures.0 ∙ r.caller.0, caller_same _ c.args.s.now.seat.me.0 _ r.caller.1 (t.loaded.same) (t.loaded.looks.lawful) (t.loaded.own.vars) (t.loaded.hands))
