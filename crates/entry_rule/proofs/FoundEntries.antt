@@ -1,21 +1,10 @@
 -- A view after an event that adds facts and changes nothing else.
-use Rattle.std.proofs.Common.{ℕ, ◌<◌, [], ◌∷◌, ◌++◌, List, slice_index, refl, sym, subst}
+use Rattle.std.proofs.Common.{[], ◌∷◌, ◌++◌, List, refl}
 use Rattle.plain_table.specs.declared.events.Event.{Event}
-use Rattle.plain_table.specs.declared.events.Space.{Space}
-use Rattle.plain_table.specs.Near.{IsNear}
-use Rattle.plain_table.specs.Table.{Table, Sizes, limit_in}
-use Rattle.plain_table.specs.Words.{entry_place}
-use Rattle.word_laws.specs.ReadLaws.{EntryTells}
-use Rattle.word_laws.specs.Small.{AreSmall}
-use Rattle.word_laws.proofs.EntryReads.{EntryWordsTell-near}
 use Rattle.entry_base.specs.declared.view.Fact.{Fact}
-use Rattle.entry_base.specs.declared.view.Opening.{Opening}
 use Rattle.entry_base.specs.declared.view.View.{View}
 use Rattle.entry_base.specs.Callers.{Extends}
 use Rattle.entry_base.specs.Learned.{Answered}
-use Rattle.entry_base.specs.Openings.{sizes_in}
-use Rattle.entry_base.specs.Rule.{Kept}
-use Rattle.entry_base.proofs.Steps.{Given}
 use Rattle.entry_base.proofs.Sums.{has_append}
 
 -- an event was added to the history, and facts to those that were known

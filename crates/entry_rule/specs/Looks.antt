@@ -1,19 +1,16 @@
 -- What the steps that look at a cell tell their seat, and those that store into one, exchange its value or publish it.
 use Rattle.std.specs.Prelude.{◌≡◌, ◌≢◌, ℕ, ◌==◌, if◌then◌else◌, Option, Some, None, slice_index_or, slice_set, true}
 use Rattle.plain_table.specs.declared.events.Act.TheVariants as act
-use Rattle.plain_table.specs.declared.events.Cell.{Cell}
 use Rattle.plain_table.specs.declared.events.Space.{Space}
-use Rattle.plain_table.specs.declared.events.Space.TheVariants.{External, Trusted}
 use Rattle.plain_table.specs.declared.reports.Reply.{Reply}
 use Rattle.plain_table.specs.declared.reports.Reply.TheVariants as reply
 use Rattle.plain_table.specs.Index.{index_of}
-use Rattle.plain_table.specs.Rows.{is_asked}
 use Rattle.plain_table.specs.Words.{cell_word}
 use Rattle.word_laws.specs.ReadLaws.{seen_by, tag_bits, value_bits}
 use Rattle.entry_word.specs.declared.image.Pending.{Pending}
 use Rattle.entry_base.specs.declared.view.Fact.TheVariants as fact
 use Rattle.entry_base.specs.declared.view.View.{View}
-use Rattle.entry_base.specs.Callers.{SameCaller, SameOwn, Extends, event_of}
+use Rattle.entry_base.specs.Callers.{SameCaller, Extends, event_of}
 use Rattle.entry_base.specs.Learned.{Answered}
 use Rattle.entry_base.specs.Lists.{Has}
 

@@ -20,14 +20,24 @@ use std::marker::Brand;
 
 /// The place of the area word, and its bit that says that the compaction is aborted.
 const AREA: usize = 1;
+
 const ABORTED: u64 = 1 << 32;
 /// The first bit of a tag, and the bits of an evacuation entry, a hidden cell and a mark.
 const TAG: u64 = 1 << 48;
+
 const EVACUATION: u64 = 1 << 58;
+
 const HIDDEN: u64 = 1 << 59;
+
 const MARK: u64 = 1 << 62;
 
-fn put_external_as<N: Learning>(shared: &Shared, s: &mut Session, index: u32, tag: u8, value: u64) -> u64
+fn put_external_as<N: Learning>(
+    shared: &Shared,
+    s: &mut Session,
+    index: u32,
+    tag: u8,
+    value: u64,
+) -> u64
     requires caller { IsOf shared.now s.old }
     requires owed { Has (view s.old).owed (claim_of (view s.old) External index) }
     requires tagged { IsTag tag × (value < 2 ^ 48) }
@@ -37,10 +47,11 @@ fn put_external_as<N: Learning>(shared: &Shared, s: &mut Session, index: u32, ta
     ensures caller { IsOf shared.now s.new }
     ensures learned { Put (view s.old) External index tag value (view s.new) }
 {
-    shared
-        .table
-        .shared
-        .swap::<Learns<N>>(&mut s.seat, shared.entry_place(Space::External, index), MARK + (tag as u64) * TAG + value)
+    shared.table.shared.swap::<Learns<N>>(
+        &mut s.seat,
+        shared.entry_place(Space::External, index),
+        MARK + (tag as u64) * TAG + value,
+    )
 }
 
 /// Fills an external index that the caller took with a marked cell, which may be bound to a field: tag from 1 on, value below
@@ -57,7 +68,13 @@ pub fn put_external(shared: &Shared, s: &mut Session, index: u32, tag: u8, value
     put_external_as::<Brand>(shared, s, index, tag, value);
 }
 
-fn put_trusted_as<N: Learning>(shared: &Shared, s: &mut Session, index: u32, tag: u8, value: u64) -> u64
+fn put_trusted_as<N: Learning>(
+    shared: &Shared,
+    s: &mut Session,
+    index: u32,
+    tag: u8,
+    value: u64,
+) -> u64
     requires caller { IsOf shared.now s.old }
     requires owed { Has (view s.old).owed (claim_of (view s.old) Trusted index) }
     requires tagged { IsTag tag × (value < 2 ^ 48) }
@@ -66,10 +83,11 @@ fn put_trusted_as<N: Learning>(shared: &Shared, s: &mut Session, index: u32, tag
     ensures caller { IsOf shared.now s.new }
     ensures learned { PutTrusted (view s.old) index tag value (view s.new) }
 {
-    shared
-        .table
-        .shared
-        .swap::<Learns<N>>(&mut s.seat, shared.entry_place(Space::Trusted, index), HIDDEN + MARK + (tag as u64) * TAG + value)
+    shared.table.shared.swap::<Learns<N>>(
+        &mut s.seat,
+        shared.entry_place(Space::Trusted, index),
+        HIDDEN + MARK + (tag as u64) * TAG + value,
+    )
 }
 
 /// Fills a trusted index that the caller took with a marked cell that no look can see: tag from 1 on, value below 2^48.
@@ -84,7 +102,13 @@ pub fn put_trusted(shared: &Shared, s: &mut Session, index: u32, tag: u8, value:
     put_trusted_as::<Brand>(shared, s, index, tag, value);
 }
 
-fn evacuate_step_as<N: Learning>(shared: &Shared, s: &mut Session, index: u32, number: u32, word: u32) -> u64
+fn evacuate_step_as<N: Learning>(
+    shared: &Shared,
+    s: &mut Session,
+    index: u32,
+    number: u32,
+    word: u32,
+) -> u64
     requires caller { IsOf shared.now s.old }
     requires owed { Has (view s.old).owed (claim_of (view s.old) External index) }
     requires area { (start : ℕ) × (start_of (view s.old).opening ≡ Some start) × (index < start) }
@@ -94,10 +118,11 @@ fn evacuate_step_as<N: Learning>(shared: &Shared, s: &mut Session, index: u32, n
     ensures caller { IsOf shared.now s.new }
     ensures learned { Evacuated (view s.old) index number word (view s.new) }
 {
-    shared
-        .table
-        .shared
-        .swap::<Learns<N>>(&mut s.seat, shared.entry_place(Space::External, index), EVACUATION + number as u64)
+    shared.table.shared.swap::<Learns<N>>(
+        &mut s.seat,
+        shared.entry_place(Space::External, index),
+        EVACUATION + number as u64,
+    )
 }
 
 /// Fills an external index below the area, which the caller took, with the evacuation entry of a field (by its number) of an object
@@ -145,10 +170,7 @@ fn load_area_as<N: Learning>(shared: &Shared, s: &mut Session) -> u64
     ensures caller { IsOf shared.now s.new }
     ensures learned { Loaded (view s.old) (area_facts result) (view s.new) }
 {
-    shared
-        .table
-        .shared
-        .load::<Learns<N>>(&mut s.seat, AREA)
+    shared.table.shared.load::<Learns<N>>(&mut s.seat, AREA)
 }
 
 /// Loads the area word, which says in bit 32 that the compaction is aborted. This is no event.

@@ -19,9 +19,17 @@ use std::marker::Brand;
 const PHASE: usize = 4;
 /// The first bit of a tag, and the bit of a mark.
 const TAG: u64 = 1 << 48;
+
 const MARK: u64 = 1 << 62;
 
-fn look_step_as<N: Learning>(shared: &Shared, s: &mut Session, space: Space, word: u32, first: u8, last: u8) -> u64
+fn look_step_as<N: Learning>(
+    shared: &Shared,
+    s: &mut Session,
+    space: Space,
+    word: u32,
+    first: u8,
+    last: u8,
+) -> u64
     requires caller { IsOf shared.now s.old }
     requires range { 1 ≤ first }
     requires inside { index_of word < limit_in (sizes_in (view s.old).opening) space }
@@ -37,7 +45,14 @@ fn look_step_as<N: Learning>(shared: &Shared, s: &mut Session, space: Space, wor
 
 /// Looks at the entry that a word names, below the limit, for a cell whose tag is from `first` to `last`. The answer is the word of
 /// the entry; what the look answers is `look_reply` of `specs/Looks.antt`.
-pub fn look_step(shared: &Shared, s: &mut Session, space: Space, word: u32, first: u8, last: u8) -> u64
+pub fn look_step(
+    shared: &Shared,
+    s: &mut Session,
+    space: Space,
+    word: u32,
+    first: u8,
+    last: u8,
+) -> u64
     requires caller { IsOf shared.now s.old }
     requires range { 1 ≤ first }
     requires inside { index_of word < limit_in (sizes_in (view s.old).opening) space }
@@ -47,17 +62,21 @@ pub fn look_step(shared: &Shared, s: &mut Session, space: Space, word: u32, firs
     look_step_as::<Brand>(shared, s, space, word, first, last)
 }
 
-fn look_beyond_as<N: Learning>(shared: &Shared, s: &mut Session, space: Space, word: u32, first: u8, last: u8) -> u64
+fn look_beyond_as<N: Learning>(
+    shared: &Shared,
+    s: &mut Session,
+    space: Space,
+    word: u32,
+    first: u8,
+    last: u8,
+) -> u64
     requires caller { IsOf shared.now s.old }
     requires beyond { limit_in (sizes_in (view s.old).opening) space ≤ index_of word }
     requires picked { (found : ℕ) (v w : Known) → N.learns found v w ↔ LookedBeyond v space word first last w }
     ensures caller { IsOf shared.now s.new }
     ensures learned { LookedBeyond (view s.old) space word first last (view s.new) }
 {
-    shared
-        .table
-        .shared
-        .load::<Learns<N>>(&mut s.seat, PHASE)
+    shared.table.shared.load::<Learns<N>>(&mut s.seat, PHASE)
 }
 
 /// Looks at a word whose index is not below the limit: a fault.
@@ -70,7 +89,15 @@ pub fn look_beyond(shared: &Shared, s: &mut Session, space: Space, word: u32, fi
     look_beyond_as::<Brand>(shared, s, space, word, first, last);
 }
 
-fn store_step_as<N: Learning>(shared: &Shared, s: &mut Session, word: u32, first: u8, last: u8, tag: u8, value: u64) -> u64
+fn store_step_as<N: Learning>(
+    shared: &Shared,
+    s: &mut Session,
+    word: u32,
+    first: u8,
+    last: u8,
+    tag: u8,
+    value: u64,
+) -> u64
     requires caller { IsOf shared.now s.old }
     requires cell { Has (view s.old).facts (fact.Cell External (index_of word) tag) }
     requires asked { IsTrue (is_asked first last tag) }
@@ -80,14 +107,23 @@ fn store_step_as<N: Learning>(shared: &Shared, s: &mut Session, word: u32, first
     ensures caller { IsOf shared.now s.new }
     ensures learned { Stored (view s.old) word first last value (view s.new) }
 {
-    shared
-        .table
-        .shared
-        .swap::<Learns<N>>(&mut s.seat, shared.entry_place(Space::External, word >> 16), MARK + (tag as u64) * TAG + value)
+    shared.table.shared.swap::<Learns<N>>(
+        &mut s.seat,
+        shared.entry_place(Space::External, word >> 16),
+        MARK + (tag as u64) * TAG + value,
+    )
 }
 
 /// Stores a value below 2^48 in the cell that an external word names. The caller knows that its tag, which is asked, is `tag`.
-pub fn store_step(shared: &Shared, s: &mut Session, word: u32, first: u8, last: u8, tag: u8, value: u64)
+pub fn store_step(
+    shared: &Shared,
+    s: &mut Session,
+    word: u32,
+    first: u8,
+    last: u8,
+    tag: u8,
+    value: u64,
+)
     requires caller { IsOf shared.now s.old }
     requires cell { Has (view s.old).facts (fact.Cell External (index_of word) tag) }
     requires asked { IsTrue (is_asked first last tag) }
@@ -99,7 +135,15 @@ pub fn store_step(shared: &Shared, s: &mut Session, word: u32, first: u8, last: 
     store_step_as::<Brand>(shared, s, word, first, last, tag, value);
 }
 
-fn exchange_step_as<N: Learning>(shared: &Shared, s: &mut Session, word: u32, first: u8, last: u8, tag: u8, value: u64) -> u64
+fn exchange_step_as<N: Learning>(
+    shared: &Shared,
+    s: &mut Session,
+    word: u32,
+    first: u8,
+    last: u8,
+    tag: u8,
+    value: u64,
+) -> u64
     requires caller { IsOf shared.now s.old }
     requires cell { Has (view s.old).facts (fact.Cell External (index_of word) tag) }
     requires asked { IsTrue (is_asked first last tag) }
@@ -109,15 +153,24 @@ fn exchange_step_as<N: Learning>(shared: &Shared, s: &mut Session, word: u32, fi
     ensures caller { IsOf shared.now s.new }
     ensures learned { Exchanged (view s.old) word first last value result (view s.new) }
 {
-    shared
-        .table
-        .shared
-        .swap::<Learns<N>>(&mut s.seat, shared.entry_place(Space::External, word >> 16), MARK + (tag as u64) * TAG + value)
+    shared.table.shared.swap::<Learns<N>>(
+        &mut s.seat,
+        shared.entry_place(Space::External, word >> 16),
+        MARK + (tag as u64) * TAG + value,
+    )
 }
 
 /// Exchanges the value of the cell that an external word names for another one below 2^48. The caller knows that its tag, which is
 /// asked, is `tag`. The answer is the word of the entry as it was.
-pub fn exchange_step(shared: &Shared, s: &mut Session, word: u32, first: u8, last: u8, tag: u8, value: u64) -> u64
+pub fn exchange_step(
+    shared: &Shared,
+    s: &mut Session,
+    word: u32,
+    first: u8,
+    last: u8,
+    tag: u8,
+    value: u64,
+) -> u64
     requires caller { IsOf shared.now s.old }
     requires cell { Has (view s.old).facts (fact.Cell External (index_of word) tag) }
     requires asked { IsTrue (is_asked first last tag) }
@@ -129,7 +182,13 @@ pub fn exchange_step(shared: &Shared, s: &mut Session, word: u32, first: u8, las
     exchange_step_as::<Brand>(shared, s, word, first, last, tag, value)
 }
 
-fn publish_step_as<N: Learning>(shared: &Shared, s: &mut Session, index: u32, tag: u8, value: u64) -> u64
+fn publish_step_as<N: Learning>(
+    shared: &Shared,
+    s: &mut Session,
+    index: u32,
+    tag: u8,
+    value: u64,
+) -> u64
     requires caller { IsOf shared.now s.old }
     requires mutator { (view s.old).number < 8 }
     requires ticket { HasTicket (view s.old) index tag value }
@@ -139,10 +198,11 @@ fn publish_step_as<N: Learning>(shared: &Shared, s: &mut Session, index: u32, ta
     ensures caller { IsOf shared.now s.new }
     ensures learned { Published (view s.old) index (view s.new) }
 {
-    let found = shared
-        .table
-        .shared
-        .swap::<Learns<N>>(&mut s.seat, shared.entry_place(Space::Trusted, index), MARK + (tag as u64) * TAG + value);
+    let found = shared.table.shared.swap::<Learns<N>>(
+        &mut s.seat,
+        shared.entry_place(Space::Trusted, index),
+        MARK + (tag as u64) * TAG + value,
+    );
     s.pending[s.number as usize] = None;
     found
 }

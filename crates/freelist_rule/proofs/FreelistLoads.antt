@@ -102,8 +102,8 @@ module _ (key : Opening) (words : List ℕ) (views : List View) (id : ℕ) (v : 
   for_take : IsSpent v p word ⊎ (IsSpent v p word → ⊥) → (w : View) × Kept key words (set views id w) × FreelistForTake v p word w
   for_take (inl spent) =
       let done = answered (act.Take p) reply.Full [] tt refl (λ q. refl) (λ s g.
-          let none = none_free spent s g in
-          ((tt, sym (ap (λ o. option_map_or reply.Index o reply.Full) none)), ap (with_taken s v.number p) none, tt)) in (
+      let none = none_free spent s g in
+      ((tt, sym (ap (λ o. option_map_or reply.Index o reply.Full) none)), ap (with_taken s v.number p) none, tt)) in (
         answered_view (act.Take p) reply.Full [] tt refl (λ q. refl),
         done.0,
         record { loaded = done.1; full = λ is. done.2; left = λ left. absurd (left spent) },
@@ -175,8 +175,8 @@ module _ (key : Opening) (words : List ℕ) (views : List View) (id : ℕ) (v : 
   for_below (inl out) =
       let more = fact.Used External start ∷ [] in
       let done = answered key words views id v k at caller External (act.Below start) reply.NoRoom more tt refl (λ q. refl) (λ s g.
-          let is = none_below out s g in
-          ((is.0, sym (ap (λ o. option_map_or reply.Index o reply.NoRoom) is.1)), ap (with_taken s v.number External) is.1, ((is.2, tt), tt))) in (
+      let is = none_below out s g in
+      ((is.0, sym (ap (λ o. option_map_or reply.Index o reply.NoRoom) is.1)), ap (with_taken s v.number External) is.1, ((is.2, tt), tt))) in (
         answered_view key words views id v k at caller External (act.Below start) reply.NoRoom more tt refl (λ q. refl),
         done.0,
         record { loaded = done.1; full = λ is. (done.2, inr (inl refl)); left = λ left. absurd (left out) },
@@ -256,10 +256,13 @@ module _ (key : Opening) (words : List ℕ) (views : List View) (id : ℕ) (v : 
       (omega (arith, is, there, few), λ e. omega (arith, e))
 
   known_link : (s : Table) → Given key k.log k.shown words v s → IsKnown (sizes_in key) k.log s k.shown words (fact.Link p head (free_word (entry % 2 ^ 32)))
-  known_link s g = (tt, elim (cases_Bool (s.used p head)) [
-    | inl used ↦ inl used
-    | inr unused ↦ let is = linked s g unused in inr (below, is.0, is.1)
-  ])
+  known_link s g = (
+    tt,
+    elim (cases_Bool (s.used p head)) [
+      | inl used ↦ inl used
+      | inr unused ↦ let is = linked s g unused in inr (below, is.0, is.1)
+    ],
+  )
 
   link_loaded : Kept key words (set views id link_view) × Loaded v (link_facts p head entry) link_view
   link_loaded =

@@ -15,6 +15,7 @@ use std::marker::Brand;
 
 /// The word of an entry with no access, and the bit of a free entry.
 const NO_ACCESS: u64 = 1 << 57;
+
 const FREE: u64 = 1 << 56;
 
 fn link_entry_as<N: Learning>(shared: &Shared, s: &mut Session, space: Space, index: u32) -> u64
@@ -24,10 +25,12 @@ fn link_entry_as<N: Learning>(shared: &Shared, s: &mut Session, space: Space, in
     ensures caller { IsOf shared.now s.new }
     ensures learned { LinkedEntry (view s.old) space index (view s.new) }
 {
-    shared
-        .table
-        .shared
-        .compare_exchange::<Learns<N>>(&mut s.seat, shared.entry_place(space, index), NO_ACCESS, FREE + index as u64 + 1)
+    shared.table.shared.compare_exchange::<Learns<N>>(
+        &mut s.seat,
+        shared.entry_place(space, index),
+        NO_ACCESS,
+        FREE + index as u64 + 1,
+    )
 }
 
 /// Links an entry of a segment that is not committed: exchanges no access for the free entry that links the next index. Either
@@ -50,10 +53,12 @@ fn commit_step_as<N: Learning>(shared: &Shared, s: &mut Session, space: Space, h
     ensures caller { IsOf shared.now s.new }
     ensures learned { Committed (view s.old) space head result (view s.new) }
 {
-    shared
-        .table
-        .shared
-        .compare_exchange::<Learns<N>>(&mut s.seat, freelist_place(space), head as u64, head as u64 + 4294967296 * shared.seg as u64)
+    shared.table.shared.compare_exchange::<Learns<N>>(
+        &mut s.seat,
+        freelist_place(space),
+        head as u64,
+        head as u64 + 4294967296 * shared.seg as u64,
+    )
 }
 
 /// Commits the segment at the head of an empty freelist word that was loaded, all of whose entries were linked. The answer is

@@ -66,7 +66,14 @@ pub fn load_reference(shared: &Shared, s: &mut Session, object: u32, k: u32) -> 
     load_reference_as::<Brand>(shared, s, object, k)
 }
 
-fn load_entry_as<N: Learning>(shared: &Shared, s: &mut Session, space: Space, object: u32, f: u32, word: u32) -> u64
+fn load_entry_as<N: Learning>(
+    shared: &Shared,
+    s: &mut Session,
+    space: Space,
+    object: u32,
+    f: u32,
+    word: u32,
+) -> u64
     requires caller { IsOf shared.now s.old }
     requires spaced { space_of (field_of object f) ≡ space }
     requires inside { index_of word < limit_in (sizes_in (view s.old).opening) space }
@@ -83,7 +90,14 @@ fn load_entry_as<N: Learning>(shared: &Shared, s: &mut Session, space: Space, ob
 }
 
 /// Loads the entry that a word names which stood in a field, before a mark or an evacuation. This is no event.
-pub fn load_entry(shared: &Shared, s: &mut Session, space: Space, object: u32, f: u32, word: u32) -> u64
+pub fn load_entry(
+    shared: &Shared,
+    s: &mut Session,
+    space: Space,
+    object: u32,
+    f: u32,
+    word: u32,
+) -> u64
     requires caller { IsOf shared.now s.old }
     requires spaced { space_of (field_of object f) ≡ space }
     requires inside { index_of word < limit_in (sizes_in (view s.old).opening) space }
@@ -95,7 +109,14 @@ pub fn load_entry(shared: &Shared, s: &mut Session, space: Space, object: u32, f
     load_entry_as::<Brand>(shared, s, space, object, f, word)
 }
 
-fn load_mark_as<N: Learning>(shared: &Shared, s: &mut Session, space: Space, object: u32, f: u32, word: u32) -> u64
+fn load_mark_as<N: Learning>(
+    shared: &Shared,
+    s: &mut Session,
+    space: Space,
+    object: u32,
+    f: u32,
+    word: u32,
+) -> u64
     requires caller { IsOf shared.now s.old }
     requires spaced { space_of (field_of object f) ≡ space }
     requires inside { index_of word < limit_in (sizes_in (view s.old).opening) space }
@@ -113,7 +134,14 @@ fn load_mark_as<N: Learning>(shared: &Shared, s: &mut Session, space: Space, obj
 
 /// Loads the entry that a word names which stood in a field, for a mark: where a marked cell stands there, this is the event of the
 /// mark.
-pub fn load_mark(shared: &Shared, s: &mut Session, space: Space, object: u32, f: u32, word: u32) -> u64
+pub fn load_mark(
+    shared: &Shared,
+    s: &mut Session,
+    space: Space,
+    object: u32,
+    f: u32,
+    word: u32,
+) -> u64
     requires caller { IsOf shared.now s.old }
     requires spaced { space_of (field_of object f) ≡ space }
     requires inside { index_of word < limit_in (sizes_in (view s.old).opening) space }

@@ -18,10 +18,20 @@ use std::marker::Brand;
 
 /// The bit of a mark in an entry word, and the bits of a header.
 const MARK: u64 = 1 << 62;
+
 const SHADED: u64 = 1;
+
 const SCANNED: u64 = 2;
 
-fn mark_step_as<N: Learning>(shared: &Shared, s: &mut Session, space: Space, object: u32, f: u32, word: u32, entry: u64) -> u64
+fn mark_step_as<N: Learning>(
+    shared: &Shared,
+    s: &mut Session,
+    space: Space,
+    object: u32,
+    f: u32,
+    word: u32,
+    entry: u64,
+) -> u64
     requires caller { IsOf shared.now s.old }
     requires spaced { space_of (field_of object f) ≡ space }
     requires inside { index_of word < limit_in (sizes_in (view s.old).opening) space }
@@ -32,15 +42,25 @@ fn mark_step_as<N: Learning>(shared: &Shared, s: &mut Session, space: Space, obj
     ensures caller { IsOf shared.now s.new }
     ensures learned { MarkExchanged (view s.old) space (index_of word) entry result (view s.new) }
 {
-    shared
-        .table
-        .shared
-        .compare_exchange::<Learns<N>>(&mut s.seat, shared.entry_place(space, word >> 16), entry, entry + MARK)
+    shared.table.shared.compare_exchange::<Learns<N>>(
+        &mut s.seat,
+        shared.entry_place(space, word >> 16),
+        entry,
+        entry + MARK,
+    )
 }
 
 /// Marks the entry that a word names which stood in a field: exchanges the unmarked word that was loaded for the marked one, or finds
 /// the entry marked.
-pub fn mark_step(shared: &Shared, s: &mut Session, space: Space, object: u32, f: u32, word: u32, entry: u64) -> u64
+pub fn mark_step(
+    shared: &Shared,
+    s: &mut Session,
+    space: Space,
+    object: u32,
+    f: u32,
+    word: u32,
+    entry: u64,
+) -> u64
     requires caller { IsOf shared.now s.old }
     requires spaced { space_of (field_of object f) ≡ space }
     requires inside { index_of word < limit_in (sizes_in (view s.old).opening) space }

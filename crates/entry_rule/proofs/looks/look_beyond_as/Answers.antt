@@ -11,12 +11,11 @@ load-requires g c =
     let r = c.requires in
     let sized = c.args.shared.now.sized in
     let limits = c.args.shared.now.limits in
-    let made = c.args.shared.now.made in
-    (
+    let made = c.args.shared.now.made in (
       r.caller.0,
       omega arith,
       learned_at _ _ _ c.args.s.now.seat.me _ _ (λ n. n) _ (λ found w. LookedBeyond c.args.s.now.seat.me.0 c.args.space c.args.word c.args.first c.args.last w) _ (refl) (λ n. refl) (λ n w learned. (r.picked n c.args.s.now.seat.me.0 w).1 learned)
-      (looks_beyond _ _ _ c.args.s.now.seat.me c.args.space c.args.word c.args.first c.args.last r.caller.1 r.beyond),
+          (looks_beyond _ _ _ c.args.s.now.seat.me c.args.space c.args.word c.args.first c.args.last r.caller.1 r.beyond),
     )
 
 pub invariant_of-s : goal.invariant_of-s

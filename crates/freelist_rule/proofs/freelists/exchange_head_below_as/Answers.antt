@@ -1,4 +1,4 @@
-use Rattle.std.proofs.Common.{◌-◌, ◌/◌, ◌^◌, ◌==◌, ◌∙◌, ap, arith}
+use Rattle.std.proofs.Common.{◌≡◌, ◌+◌, ◌-◌, ◌*◌, ◌/◌, ◌^◌, ◌==◌, ◌∙◌, ap, arith}
 use prog.Atomic.{either}
 use Rattle.plain_table.specs.declared.events.Act.TheVariants as act
 use Rattle.plain_table.specs.declared.events.Space.TheVariants.{External}
@@ -13,12 +13,11 @@ compare_exchange-requires g c =
     let r = c.requires in
     let sized = c.args.shared.now.sized in
     let limits = c.args.shared.now.limits in
-    let made = c.args.shared.now.made in
-    (
+    let made = c.args.shared.now.made in (
       r.caller.0,
       (let low = c.freelist_place.ensures.low in omega arith),
-      learned_at _ _ _ c.args.s.now.seat.me _ _ (λ n. either (n == c.args.word) (freelist_word c.args.next (c.args.word / 2 ^ 32 - 1)) n) _ (λ found w. Took c.args.s.now.seat.me.0 External (act.Below c.args.start) c.args.word found w) _ (c.freelist_place.ensures.place) (λ n. ap (λ x. either (n == c.args.word) x n) (omega arith)) (λ n w learned. (r.picked n c.args.s.now.seat.me.0 w).1 learned)
-      (takes_below _ _ _ c.args.s.now.seat.me c.args.start c.args.word r.loaded.0 c.args.next (c.args.word / 2 ^ 32 - 1) r.caller.1 r.area r.below r.loaded.1 (omega (arith, r.some)) r.linked (omega arith)),
+      learned_at _ _ _ c.args.s.now.seat.me _ _ (λ n. either (n == c.args.word) (freelist_word c.args.next (c.args.word / 2 ^ 32 - 1)) n) _ (λ found w. Took c.args.s.now.seat.me.0 External (act.Below c.args.start) c.args.word found w) _ (c.freelist_place.ensures.place) (λ n. ap (λ x. either (n == c.args.word) x n) (let same : c.args.next + 4294967296 * (c.args.word / 4294967296 - 1) ≡ freelist_word c.args.next (c.args.word / 2 ^ 32 - 1) = omega arith in same)) (λ n w learned. (r.picked n c.args.s.now.seat.me.0 w).1 learned)
+          (takes_below _ _ _ c.args.s.now.seat.me c.args.start c.args.word r.loaded.0 c.args.next (c.args.word / 2 ^ 32 - 1) r.caller.1 r.area r.below r.loaded.1 (omega (arith, r.some)) r.linked (omega arith)),
     )
 
 pub invariant_of-s : goal.invariant_of-s

@@ -11,12 +11,11 @@ load-requires g c =
     let r = c.requires in
     let sized = c.args.shared.now.sized in
     let limits = c.args.shared.now.limits in
-    let made = c.args.shared.now.made in
-    (
+    let made = c.args.shared.now.made in (
       r.caller.0,
       (let low = c.freelist_place.ensures.low in omega arith),
       learned_at _ _ _ c.args.s.now.seat.me _ _ (λ n. n) _ (λ found w. FreelistForBelow c.args.s.now.seat.me.0 c.args.start found w) _ (c.freelist_place.ensures.place) (λ n. refl) (λ n w learned. (r.picked n c.args.s.now.seat.me.0 w).1 learned)
-      (loads_for_below _ _ _ c.args.s.now.seat.me c.args.start r.caller.1 r.area),
+          (loads_for_below _ _ _ c.args.s.now.seat.me c.args.start r.caller.1 r.area),
     )
 
 pub invariant_of-s : goal.invariant_of-s

@@ -12,12 +12,11 @@ load-requires g c =
     let r = c.requires in
     let sized = c.args.shared.now.sized in
     let limits = c.args.shared.now.limits in
-    let made = c.args.shared.now.made in
-    (
+    let made = c.args.shared.now.made in (
       r.caller.0,
       c.entry_place.ensures.inside,
       learned_at _ _ _ c.args.s.now.seat.me _ _ (λ n. n) _ (λ found w. Loaded c.args.s.now.seat.me.0 (link_facts c.args.space (c.args.word % 2 ^ 32) found) w) _ (c.entry_place.ensures.place) (λ n. refl) (λ n w learned. (r.picked n c.args.s.now.seat.me.0 w).1 learned)
-      (loads_link _ _ _ c.args.s.now.seat.me c.args.space c.args.word r.loaded.0 r.caller.1 r.loaded.1 r.some r.inside.0 r.inside.1),
+          (loads_link _ _ _ c.args.s.now.seat.me c.args.space c.args.word r.loaded.0 r.caller.1 r.loaded.1 r.some r.inside.0 r.inside.1),
     )
 
 pub invariant_of-s : goal.invariant_of-s

@@ -14,12 +14,11 @@ compare_exchange-requires g c =
     let r = c.requires in
     let sized = c.args.shared.now.sized in
     let limits = c.args.shared.now.limits in
-    let made = c.args.shared.now.made in
-    (
+    let made = c.args.shared.now.made in (
       r.caller.0,
       (let low = c.freelist_place.ensures.low in omega arith),
       learned_at _ _ _ c.args.s.now.seat.me _ _ (λ n. either (n == c.args.head) (freelist_word c.args.head (sizes_in c.args.s.now.seat.me.0.opening).seg) n) _ (λ found w. Committed c.args.s.now.seat.me.0 c.args.space c.args.head found w) _ (c.freelist_place.ensures.place) (λ n. ap (λ x. either (n == c.args.head) x n) {x = c.args.head + 2 ^ 32 * c.args.shared.now.seg} {y = freelist_word c.args.head (sizes_in c.args.s.now.seat.me.0.opening).seg} (let same = ap (λ k. (sizes_in k).seg) r.caller.1.opened in omega arith)) (λ n w learned. (r.picked n c.args.s.now.seat.me.0 w).1 learned)
-      (commits_segment _ _ _ c.args.s.now.seat.me c.args.space c.args.head r.loaded.0 r.caller.1 r.loaded.1 r.below r.linked),
+          (commits_segment _ _ _ c.args.s.now.seat.me c.args.space c.args.head r.loaded.0 r.caller.1 r.loaded.1 r.below r.linked),
     )
 
 pub invariant_of-s : goal.invariant_of-s

@@ -13,12 +13,11 @@ compare_exchange-requires g c =
     let r = c.requires in
     let sized = c.args.shared.now.sized in
     let limits = c.args.shared.now.limits in
-    let made = c.args.shared.now.made in
-    (
+    let made = c.args.shared.now.made in (
       r.caller.0,
       c.entry_place.ensures.inside,
       learned_at _ _ _ c.args.s.now.seat.me _ _ (λ n. either (n == no_access_word) (free_word (c.args.index + 1)) n) _ (λ found w. LinkedEntry c.args.s.now.seat.me.0 c.args.space c.args.index w) _ (c.entry_place.ensures.place) (λ n. ap (λ x. either (n == no_access_word) x n) {x = 2 ^ 56 + c.args.index + 1} {y = free_word (c.args.index + 1)} (omega arith)) (λ n w learned. (r.picked n c.args.s.now.seat.me.0 w).1 learned)
-      (links_entry _ _ _ c.args.s.now.seat.me c.args.space c.args.index r.caller.1 r.inside),
+          (links_entry _ _ _ c.args.s.now.seat.me c.args.space c.args.index r.caller.1 r.inside),
     )
 
 pub invariant_of-s : goal.invariant_of-s

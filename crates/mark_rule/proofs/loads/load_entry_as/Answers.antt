@@ -12,12 +12,11 @@ load-requires g c =
     let r = c.requires in
     let sized = c.args.shared.now.sized in
     let limits = c.args.shared.now.limits in
-    let made = c.args.shared.now.made in
-    (
+    let made = c.args.shared.now.made in (
       r.caller.0,
       c.entry_place.ensures.inside,
       learned_at _ _ _ c.args.s.now.seat.me _ _ (λ n. n) _ (λ found w. EntryLoaded c.args.s.now.seat.me.0 (field_of c.args.object c.args.f) c.args.word found w) _ (c.entry_place.ensures.place) (λ n. refl) (λ n w learned. (r.picked n c.args.s.now.seat.me.0 w).1 learned)
-      (loads_entry _ _ _ c.args.s.now.seat.me (field_of c.args.object c.args.f) c.args.word c.args.space r.spaced r.caller.1 r.inside r.touched r.may),
+          (loads_entry _ _ _ c.args.s.now.seat.me (field_of c.args.object c.args.f) c.args.word c.args.space r.spaced r.caller.1 r.inside r.touched r.may),
     )
 
 pub invariant_of-s : goal.invariant_of-s

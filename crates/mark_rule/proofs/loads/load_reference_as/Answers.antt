@@ -12,12 +12,11 @@ load-requires g c =
     let sized = c.args.shared.now.sized in
     let limits = c.args.shared.now.limits in
     let made = c.args.shared.now.made in
-    let object_low = hands_within_limit _ c.args.s.now.seat.me.0 c.args.object r.caller.1 r.hands in
-    (
+    let object_low = hands_within_limit _ c.args.s.now.seat.me.0 c.args.object r.caller.1 r.hands in (
       r.caller.0,
       omega (arith, object_low, r.few),
       learned_at _ _ _ c.args.s.now.seat.me _ _ (λ n. n) _ (λ found w. ReferenceLoaded c.args.s.now.seat.me.0 c.args.object c.args.k found w) _ (refl) (λ n. refl) (λ n w learned. (r.picked n c.args.s.now.seat.me.0 w).1 learned)
-      (loads_reference _ _ _ c.args.s.now.seat.me c.args.object c.args.k r.caller.1 r.hands r.few),
+          (loads_reference _ _ _ c.args.s.now.seat.me c.args.object c.args.k r.caller.1 r.hands r.few),
     )
 
 pub invariant_of-s : goal.invariant_of-s

@@ -14,12 +14,11 @@ compare_exchange-requires g c =
     let r = c.requires in
     let sized = c.args.shared.now.sized in
     let limits = c.args.shared.now.limits in
-    let made = c.args.shared.now.made in
-    (
+    let made = c.args.shared.now.made in (
       r.caller.0,
       c.entry_place.ensures.inside,
       learned_at _ _ _ c.args.s.now.seat.me _ _ (λ n. either (n == c.args.entry) (c.args.entry + 2 ^ 62) n) _ (λ found w. MarkExchanged c.args.s.now.seat.me.0 c.args.space (index_of c.args.word) c.args.entry found w) _ (c.entry_place.ensures.place) (λ n. refl) (λ n w learned. (r.picked n c.args.s.now.seat.me.0 w).1 learned)
-      (marks _ _ _ c.args.s.now.seat.me (field_of c.args.object c.args.f) c.args.word c.args.entry c.args.space r.spaced r.caller.1 r.inside r.touched r.loaded r.unmarked),
+          (marks _ _ _ c.args.s.now.seat.me (field_of c.args.object c.args.f) c.args.word c.args.entry c.args.space r.spaced r.caller.1 r.inside r.touched r.loaded r.unmarked),
     )
 
 pub invariant_of-s : goal.invariant_of-s

@@ -12,12 +12,11 @@ fetch_or-requires g c =
     let sized = c.args.shared.now.sized in
     let limits = c.args.shared.now.limits in
     let made = c.args.shared.now.made in
-    let object_low = hands_within_limit _ c.args.s.now.seat.me.0 c.args.object r.caller.1 r.passed.hands in
-    (
+    let object_low = hands_within_limit _ c.args.s.now.seat.me.0 c.args.object r.caller.1 r.passed.hands in (
       r.caller.0,
       omega (arith, object_low),
       learned_at _ _ _ c.args.s.now.seat.me _ _ (λ n. bit_or n 2) _ (λ found w. Scanned c.args.s.now.seat.me.0 c.args.object w) _ (refl) (λ n. refl) (λ n w learned. (r.picked n c.args.s.now.seat.me.0 w).1 learned)
-      (scans _ _ _ c.args.s.now.seat.me c.args.object r.caller.1 r.passed),
+          (scans _ _ _ c.args.s.now.seat.me c.args.object r.caller.1 r.passed),
     )
 
 pub invariant_of-s : goal.invariant_of-s

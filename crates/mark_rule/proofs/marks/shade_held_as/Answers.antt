@@ -12,12 +12,11 @@ fetch_or-requires g c =
     let sized = c.args.shared.now.sized in
     let limits = c.args.shared.now.limits in
     let made = c.args.shared.now.made in
-    let object_low = held_within_limit _ c.args.s.now.seat.me.0 r.held.0 c.args.object r.caller.1 r.held.1 in
-    (
+    let object_low = held_within_limit _ c.args.s.now.seat.me.0 r.held.0 c.args.object r.caller.1 r.held.1 in (
       r.caller.0,
       omega (arith, object_low),
       learned_at _ _ _ c.args.s.now.seat.me _ _ (λ n. bit_or n 1) _ (λ found w. Shaded c.args.s.now.seat.me.0 c.args.object found w) _ (refl) (λ n. refl) (λ n w learned. (r.picked n c.args.s.now.seat.me.0 w).1 learned)
-      (shades_held _ _ _ c.args.s.now.seat.me c.args.object r.caller.1 r.mutator r.held r.in_cycle),
+          (shades_held _ _ _ c.args.s.now.seat.me c.args.object r.caller.1 r.mutator r.held r.in_cycle),
     )
 
 pub invariant_of-s : goal.invariant_of-s

@@ -12,12 +12,11 @@ fetch_or-requires g c =
     let sized = c.args.shared.now.sized in
     let limits = c.args.shared.now.limits in
     let made = c.args.shared.now.made in
-    let same = ap (λ k. (sizes_in k).objects) r.caller.1.opened in
-    (
+    let same = ap (λ k. (sizes_in k).objects) r.caller.1.opened in (
       r.caller.0,
       omega (arith, r.made, same),
       learned_at _ _ _ c.args.s.now.seat.me _ _ (λ n. bit_or n 1) _ (λ found w. Shaded c.args.s.now.seat.me.0 c.args.object found w) _ (refl) (λ n. refl) (λ n w learned. (r.picked n c.args.s.now.seat.me.0 w).1 learned)
-      (shades _ _ _ c.args.s.now.seat.me c.args.object r.caller.1 r.made r.traced),
+          (shades _ _ _ c.args.s.now.seat.me c.args.object r.caller.1 r.made r.traced),
     )
 
 pub invariant_of-s : goal.invariant_of-s
