@@ -1,0 +1,11 @@
+//! Worked sessions: phases of an open table whose steps are made one by one, on one thread and on two, and whose images are
+//! compared with the words that were expected.
+//!
+//! This crate has no code but its tests: `openings.rt` opens tables of fresh images, and the files of tests make each kind of
+//! step once (`entry_tests.rt`, `object_tests.rt`, `mark_tests.rt`) and hand sessions and chunks over (`session_tests.rt`).
+#![tactic(auto)]
+
+#[cfg(test)]
+mod openings;
+#[cfg(test)]
+mod session_tests;
