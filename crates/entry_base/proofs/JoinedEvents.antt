@@ -10,7 +10,7 @@ use Rattle.entry_base.specs.Lists.{StartsWith, Each, Has, count_in, longer, shor
 use Rattle.entry_base.specs.Numbers.{HasNumber}
 use Rattle.entry_base.specs.Facts.{GoesOn}
 use Rattle.entry_base.specs.Views.{absorber, both, has_number, joined_fact}
-use Rattle.entry_base.specs.Callers.{AreVariables, AreWithin, IsCaller}
+use Rattle.entry_base.specs.Callers.{AreVariables, ArePublishable, AreWithin, IsCaller}
 use Rattle.entry_base.specs.Histories.{IsPhaseHistory}
 use Rattle.entry_base.specs.Learned.{Met}
 use Rattle.entry_base.specs.Joins.{Absorbed, Joined, PutTogether}
@@ -129,6 +129,7 @@ joined_calls key v u w is other j =
       own = subst (λ n. 1 ≤ count_in n w.numbers) (sym j.together.number) (subst (λ l. 1 ≤ count_in v.number l) (sym j.numbers) (let c = count_append v.number v.numbers u.numbers in let o = is.own in omega arith));
       lawful = subst (λ o. IsPhaseHistory o w.seen) opened j.together.lawful;
       variables = subst (AreVariables key) (sym j.vars) (each_pick _ (λ i. has_number u (i / 16)) 0 v.vars u.vars is.variables other.variables);
+      pending = subst (ArePublishable key) (sym j.pending) (each_pick _ (has_number u) 0 v.pending u.pending is.pending other.pending);
       hands = subst (AreWithin key) (sym j.together.hands) (each_append _ v.hands u.hands is.hands other.hands);
     }
 
@@ -139,5 +140,6 @@ absorbed_calls key v u w is within j =
       own = subst (λ n. 1 ≤ count_in n w.numbers) (sym j.together.number) (subst (λ l. 1 ≤ count_in v.number l) (sym j.numbers) is.own);
       lawful = subst (λ o. IsPhaseHistory o w.seen) opened j.together.lawful;
       variables = subst (AreVariables key) (sym j.vars) is.variables;
+      pending = subst (ArePublishable key) (sym j.pending) is.pending;
       hands = subst (AreWithin key) (sym j.together.hands) (each_append _ v.hands u.hands is.hands within);
     }

@@ -1,16 +1,22 @@
 -- The opening meets the rule.
-use Rattle.std.proofs.Common.{◌≡◌, ◌≢◌, ℕ, zero, suc, ◌+◌, ◌*◌, ◌%◌, ◌<◌, ◌≤◌, ◌==◌, nat_lt, if◌then◌else◌, Bool, true, false, List, [], ◌∷◌, map, length, slice_index, ◌/◌, get_or, Option, Some, None, refl, sym, ap, subst, ◌∙◌, inl, inr, arith, eq-eqb, ne_eqb}
+use Rattle.std.proofs.Common.{◌≡◌, ◌≢◌, ℕ, zero, suc, ◌+◌, ◌*◌, ◌%◌, ◌<◌, ◌≤◌, ◌==◌, nat_lt, if◌then◌else◌, Bool, true, false, List, [], ◌∷◌, map, length, slice_index, ◌/◌, get_or, Option, Some, None, is_some, IfSome, IsSomeAnd, option_map, ◌^◌, refl, sym, ap, subst, ◌∙◌, inl, inr, arith, eq-eqb, ne_eqb}
 use Rattle.std.proofs.lemmas.Bool.{cases_lt}
+use Rattle.std.proofs.lemmas.List.{length-map}
+use Rattle.std.proofs.lemmas.Option.{same_Some}
 use Rattle.std.proofs.lemmas.Bool.Decides.{eqb_tells, nat_tests}
 use mathlib.Core.Option.{some, some-injective, some-ne-none}
 use lib.ListN.{get_elem?}
-use Rattle.plain_table.specs.Table.{Table, Sizes}
+use Rattle.plain_table.specs.declared.events.Cell.{Cell}
+use Rattle.plain_table.specs.declared.events.Space.TheVariants.{Trusted}
+use Rattle.plain_table.specs.Rows.{IsTag}
+use Rattle.plain_table.specs.Table.{Table, Sizes, limit_in, limit_of}
 use Rattle.plain_table.specs.Cycle.{Cycle}
 use Rattle.plain_table.specs.Words.{header_place, object_word, phase_word}
-use Rattle.plain_table.specs.Shows.{IsPending}
+use Rattle.plain_table.specs.Shows.{IsPending, PendingCell}
 use Rattle.word_laws.proofs.AreaReads.{AreaWordsTell-shown}
 use Rattle.entry_base.specs.declared.view.Opening.{Opening}
 use Rattle.entry_word.specs.declared.image.Pending.{Pending}
+use Rattle.entry_word.specs.Image.{pending_of}
 use Rattle.entry_base.specs.declared.view.View.{View}
 use Rattle.entry_base.specs.Lists.{Each, count_in}
 use Rattle.entry_base.specs.Numbers.{Stands}
@@ -19,7 +25,7 @@ use Rattle.entry_base.specs.Openings.{pending_cell, IsBase, sizes_in, greys}
 use Rattle.entry_base.specs.Views.{numbers_below, first_view}
 use Rattle.entry_base.specs.Rule.{Kept}
 use Rattle.word_laws.proofs.NearWords.{IsNear-refl}
-use Rattle.entry_base.specs.Callers.{AreVariables}
+use Rattle.entry_base.specs.Callers.{AreVariables, ArePublishable, IsPublishable}
 use Rattle.entry_base.proofs.Sums.{count_append, each_append}
 use Rattle.word_laws.specs.Small.{AreSmall}
 
@@ -146,6 +152,32 @@ each_grey words (suc n) most le = each_append _ (greys words n) (if slice_index 
 each_place : (P : ℕ → Type 0) (xs : List ℕ) → ((i : ℕ) → i < length xs → P (slice_index xs i)) → Each P xs
 each_place P [] h = tt
 each_place P (x ∷ xs) h = (h 0 (omega arith), each_place P xs (λ i low. h (suc i) (omega (arith, low))))
+
+each_slot : (P : Option Pending → Type 0) (xs : List (Option Pending)) → ((i : ℕ) → i < length xs → P (get_or xs i None)) → Each P xs
+each_slot P [] h = tt
+each_slot P (x ∷ xs) h = (h 0 (omega arith), each_slot P xs (λ i low. h (suc i) (omega (arith, low))))
+
+-- a cell that waits for its publishing stands in the table: below the limit, with a tag and a value of 48 bits
+publishable : (key : Opening) (b : Table) → IsBase key b → (ticket : Option ℕ) (waits : Option Pending) → IsPending b ticket (pending_cell waits) → IfSome waits (IsPublishable key)
+publishable key b base ticket None is = tt
+publishable key b base None (Some p) is = absurd (cc)
+publishable key b base (Some i) (Some p) is = go (b.cells Trusted i) refl is
+  where
+    go : (found : Option Cell) → b.cells Trusted i ≡ found → IsSomeAnd found (λ c. pending_cell (Some p) ≡ Some (record { index = i; tag = c.tag; value = c.value })) → IsPublishable key p
+    go None at none = absurd none
+    go (Some c) at same =
+        let e = same_Some (pending_of p) (record { index = i; tag = c.tag; value = c.value }) same in
+        let used = base.sound.used.cells Trusted i (ap (λ (o : Option Cell). is_some (option_map (λ (x : Cell). x.id) o)) at) in
+        let below = base.sound.used.below Trusted i used.0 in
+        let bounds : IsTag c.tag × (c.value < 2 ^ 48) = base.sound.cells.tags Trusted i c at in record {
+          inside = subst (λ sizes. p.index < limit_in sizes Trusted) base.shows.sizes (subst (λ n. n < limit_of b Trusted) (sym (ap (λ (q : PendingCell). q.index) e)) below);
+          tagged = (subst IsTag (sym (ap (λ (q : PendingCell). q.tag) e)) bounds.0, subst (λ n. n < 2 ^ 48) (sym (ap (λ (q : PendingCell). q.value) e)) bounds.1);
+        }
+
+pub first_pending : (key : Opening) (b : Table) → IsBase key b → ArePublishable key key.pending
+first_pending key b base = each_slot (λ x. IfSome x (IsPublishable key)) key.pending (λ n low.
+    publishable key b base (b.ticket n) (get_or key.pending n None) (subst (IsPending b (b.ticket n)) (pending_read key.pending n None)
+    (base.shows.pending.1 n None (let eight : length (map pending_cell key.pending) ≡ 8 = base.shows.pending.0 in let same = length-map key.pending pending_cell in omega (arith, low, eight, same)))))
 
 pub first_variables : (key : Opening) (b : Table) → IsBase key b → AreVariables key key.vars
 first_variables key b base = each_place (λ x. x ≤ (sizes_in key).objects) key.vars (λ i low.

@@ -18,7 +18,7 @@ use Rattle.entry_base.specs.Tied.{IsTied, Parts}
 use Rattle.entry_base.specs.Callers.{IsCaller, SameCaller, SameOwn}
 use Rattle.entry_base.proofs.Sums.{count_without, count_append, each_in, each_without}
 use Rattle.entry_base.proofs.JoinKeeps.{pick_read}
-use Rattle.entry_base.proofs.OpenKeeps.{bit, count_numbers, each_grey, first_variables}
+use Rattle.entry_base.proofs.OpenKeeps.{bit, count_numbers, each_grey, first_pending, first_variables}
 use Rattle.entry_base.proofs.Picks.{pick_long}
 
 pub blank : (n k : ℕ) → get_or (replicate n false) k false ≡ false
@@ -191,6 +191,7 @@ given_number key n objects v is has ne are = (
     own = let c = count_without n v.numbers v.number has in let o = is.own in let z = none_at in omega arith;
     lawful = is.lawful;
     variables = is.variables;
+    pending = is.pending;
     hands = each_without _ objects v.hands is.hands;
   },
   record {
@@ -198,6 +199,7 @@ given_number key n objects v is has ne are = (
     own = let o : count_in n (n ∷ []) ≡ 1 = ap (λ (b : Bool). (if b then 1 else 0) + 0) (eq-eqb n n refl) in omega arith;
     lawful = is.lawful;
     variables = is.variables;
+    pending = is.pending;
     hands = each_in _ objects v.hands are is.hands;
   },
 )
@@ -227,7 +229,7 @@ split_leaves key v left right m n some objects same all is has ne are l r =
 -- a cut gives hands alone
 pub cut_calls : (key : Opening) (objects : List ℕ) (v : View) → IsCaller key v → AreIn objects v.hands → IsCaller key (cutter objects v) × IsPart key (chunk_view objects v)
 cut_calls key objects v is are = (
-  record { opened = is.opened; own = is.own; lawful = is.lawful; variables = is.variables; hands = each_without _ objects v.hands is.hands },
+  record { opened = is.opened; own = is.own; lawful = is.lawful; variables = is.variables; pending = is.pending; hands = each_without _ objects v.hands is.hands },
   record { opened = is.opened; numbers = refl; lawful = is.lawful; hands = each_in _ objects v.hands are is.hands },
 )
 
@@ -242,5 +244,6 @@ first_calls key b base = record {
   own = let c = count_numbers 13 12 in let t : bit (nat_lt 12 13) ≡ 1 = refl in omega arith;
   lawful = record { legal = λ s is. tt; events = tt };
   variables = first_variables key b base;
+  pending = first_pending key b base;
   hands = each_grey key.words (sizes_in key).objects (sizes_in key).objects (omega arith);
 }

@@ -1,10 +1,13 @@
 -- What a contract says of a view before and after a call.
-use Rattle.std.specs.Prelude.{◌≡◌, ℕ, ◌<◌, ◌≤◌, List, [], ◌∷◌, ◌++◌}
+use Rattle.std.specs.Prelude.{◌≡◌, ℕ, ◌^◌, ◌<◌, ◌≤◌, List, [], ◌∷◌, ◌++◌, Option, IfSome}
 use Rattle.plain_table.specs.declared.events.Act.{Act}
 use Rattle.plain_table.specs.declared.events.Event.{Event}
+use Rattle.plain_table.specs.declared.events.Space.TheVariants.{Trusted}
 use Rattle.plain_table.specs.declared.reports.Reply.{Reply}
 use Rattle.plain_table.specs.History.{after}
-use Rattle.plain_table.specs.Table.{Table}
+use Rattle.plain_table.specs.Rows.{IsTag}
+use Rattle.plain_table.specs.Table.{Table, limit_in}
+use Rattle.entry_word.specs.declared.image.Pending.{Pending}
 use Rattle.entry_base.specs.declared.view.Fact.{Fact}
 use Rattle.entry_base.specs.declared.view.Opening.{Opening}
 use Rattle.entry_base.specs.declared.view.View.{View}
@@ -20,12 +23,21 @@ AreWithin key objects = Each (λ o. o < (sizes_in key).objects) objects
 abbrev pub AreVariables : Opening → List ℕ → Type 0
 AreVariables key vars = Each (λ x. x ≤ (sizes_in key).objects) vars
 
+-- a trusted cell that waits for its publishing: an index below the limit, a tag, and a value of 48 bits
+pub record IsPublishable (key : Opening) (cell : Pending) : Type 0 where
+  pub inside : cell.index < limit_in (sizes_in key) Trusted
+  pub tagged : IsTag cell.tag × (cell.value < 2 ^ 48)
+
+abbrev pub ArePublishable : Opening → List (Option Pending) → Type 0
+ArePublishable key cells = Each (λ (cell : Option Pending). IfSome cell (IsPublishable key)) cells
+
 -- a view that a call can be made from
 pub record IsCaller (key : Opening) (v : View) : Type 0 where
   pub opened : v.opening ≡ key
   pub own : HasNumber v v.number
   pub lawful : IsPhaseHistory key v.seen
   pub variables : AreVariables key v.vars
+  pub pending : ArePublishable key v.pending
   pub hands : AreWithin key v.hands
 
 -- an event of the view's own number

@@ -36,12 +36,15 @@ pub record IsPart (key : Opening) (v : View) : Type 0 where
 abbrev pub IsChunkOf : Shared → Chunk → Type 0
 IsChunkOf t c = (c.seat.table_id ≡ t.table.shared.table_id) × IsPart (opened_with t) (hands_of c)
 
--- what a variable holds, by its number in a view, and the ticket of the view's own number
+-- what a variable holds, by its number in a view, and the cell that the view's own number may publish, with its index
 abbrev pub object_at : ℕ → Option ℕ
 object_at x = if x == 0 then None else Some (x - 1)
 
 abbrev pub held_in : View → ℕ → Option ℕ
 held_in v var = object_at (slice_index v.vars (16 * v.number + var))
 
+abbrev pub pending_in : View → Option Pending
+pending_in v = slice_index_or v.pending v.number None
+
 abbrev pub ticket_in : View → Option ℕ
-ticket_in v = option_map (λ (p : Pending). p.index) (slice_index_or v.pending v.number None)
+ticket_in v = option_map (λ (p : Pending). p.index) (pending_in v)

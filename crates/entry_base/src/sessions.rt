@@ -39,7 +39,7 @@ impl Session {
     ghost use Rattle.entry_base.specs.Lists.{AreIn};
     ghost use Rattle.entry_base.specs.Numbers.{HasNumber};
     ghost use Rattle.entry_base.specs.Openings.{phase_of, start_of};
-    ghost use Rattle.entry_base.specs.Sessions.{view, hands_of, held_in, ticket_in, IsOf, IsChunkOf};
+    ghost use Rattle.entry_base.specs.Sessions.{view, hands_of, held_in, pending_in, ticket_in, IsOf, IsChunkOf};
     ghost use Rattle.entry_base.specs.Views.{chunk_view, cutter, giver, newcomer};
 
     /// The number of its events.
@@ -62,18 +62,25 @@ impl Session {
         }
     }
 
+    /// The trusted cell that its number may publish.
+    pub fn pending(&self) -> Option<Pending>
+        ensures { result ≡ pending_in (view self.now) }
+    {
+        let place = self.number as usize;
+        if place < self.pending.len() {
+            self.pending[place]
+        } else {
+            None
+        }
+    }
+
     /// The trusted index that its number may publish.
     pub fn ticket(&self) -> Option<u32>
         ensures { result ≡ ticket_in (view self.now) }
     {
-        let place = self.number as usize;
-        if place < self.pending.len() {
-            match self.pending[place] {
-                Some(cell) => Some(cell.index),
-                None => None,
-            }
-        } else {
-            None
+        match self.pending() {
+            Some(cell) => Some(cell.index),
+            None => None,
         }
     }
 

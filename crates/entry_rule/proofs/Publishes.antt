@@ -30,11 +30,12 @@ use Rattle.word_laws.proofs.EntryBits.{cell_word-open}
 use Rattle.entry_word.specs.declared.image.Pending.{Pending}
 use Rattle.entry_base.specs.declared.view.Opening.{Opening}
 use Rattle.entry_base.specs.declared.view.View.{View}
-use Rattle.entry_base.specs.Callers.{IsCaller, event_of}
+use Rattle.entry_base.specs.Callers.{ArePublishable, AreVariables, AreWithin, IsCaller, event_of}
 use Rattle.entry_base.specs.Numbers.{HasNumber}
 use Rattle.entry_base.specs.Openings.{pending_cell, sizes_in}
 use Rattle.entry_base.specs.Rule.{Kept}
 use Rattle.entry_base.proofs.Changes.{EntryChanges, kept_entry}
+use Rattle.entry_base.proofs.OneByOne.{caller_stays, pending_set}
 use Rattle.entry_base.proofs.OwnsStay.{pending_stays}
 use Rattle.entry_base.proofs.Steps.{Given, Keeps, given, keeps_by}
 use Rattle.entry_rule.specs.Looks.{stored_word, HasTicket, Published}
@@ -141,6 +142,13 @@ module _ (key : Opening) (words : List ℕ) (views : List View) (id : ℕ) (v : 
           extends = done.1 caller.opened;
         },
       )
+
+-- the publisher gave its ticket up, and can call
+pub published_calls : (key : Opening) (v : View) (i : ℕ) (w : View) → IsCaller key v → Published v i w → IsCaller key w
+published_calls key v i w caller t =
+    caller_stays key v w caller t.same t.extends.lawful (subst (AreVariables key) (sym t.rest.0) caller.variables)
+    (subst (ArePublishable key) (sym t.pending) (pending_set key v.pending v.number None caller.pending tt))
+    (subst (AreWithin key) (sym t.rest.3) caller.hands)
 
 pub publishes : (key : Opening) (slots id : ℕ) (me : Me (Unit {0}) View) (i tag value : ℕ) → IsCaller key me.0 → me.0.number < 8 → HasTicket me.0 i tag value → i < limit_in (sizes_in me.0.opening) Trusted → Keeps key slots id me (entry_place (sizes_in key) Trusted i) (λ x. stored_word tag value) (λ found w. Published me.0 i w)
 publishes key slots id me i tag value caller mutator has below =

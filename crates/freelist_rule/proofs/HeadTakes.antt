@@ -239,8 +239,8 @@ takes_below key slots id me start word takes link len caller area below loaded l
 
 pub took_calls : (key : Opening) (v : View) (p : Space) (a : Act) (word found : ℕ) (w : View) → IsCaller key v → Took v p a word found w → IsCaller key w
 took_calls key v p a word found w caller took = elim (eqb_tells found word) [
-  | inl here ↦ let t = took.won here.1 in caller_same key v w caller t.same t.extends.lawful t.rest.0 t.rest.3
-  | inr other ↦ let t = took.lost other.1 in caller_same key v w caller t.same t.looks.lawful t.own.vars t.hands
+  | inl here ↦ let t = took.won here.1 in caller_same key v w caller t.same t.extends.lawful t.rest.0 t.rest.1 t.rest.3
+  | inr other ↦ let t = took.lost other.1 in caller_same key v w caller t.same t.looks.lawful t.own.vars t.own.pending t.hands
 ]
 
 pub took_tied : (x : Parts) (v : View) (p : Space) (a : Act) (word found : ℕ) (w : View) → IsTied x v → Took v p a word found w → IsTied x w

@@ -166,6 +166,6 @@ mark_loaded_tied x v f word found w tied t = elim (marked_or_not found) [
 
 pub mark_loaded_calls : (key : Opening) (v : View) (f : Field) (word found : ℕ) (w : View) → IsCaller key v → MarkLoaded v f word found w → IsCaller key w
 mark_loaded_calls key v f word found w caller t = elim (marked_or_not found) [
-  | inl is ↦ let m = t.marked is in caller_same key v w caller m.same m.extends.lawful m.own.vars m.hands
-  | inr is_not ↦ let l = (t.unmarked is_not).loaded in caller_same key v w caller l.same l.looks.lawful l.own.vars l.hands
+  | inl is ↦ let m = t.marked is in caller_same key v w caller m.same m.extends.lawful m.own.vars m.own.pending m.hands
+  | inr is_not ↦ let l = (t.unmarked is_not).loaded in caller_same key v w caller l.same l.looks.lawful l.own.vars l.own.pending l.hands
 ]

@@ -33,7 +33,7 @@ use Rattle.entry_base.specs.declared.view.Fact.{Fact}
 use Rattle.entry_base.specs.declared.view.Fact.TheVariants as fact
 use Rattle.entry_base.specs.declared.view.Opening.{Opening}
 use Rattle.entry_base.specs.declared.view.View.{View}
-use Rattle.entry_base.specs.Callers.{AreVariables, AreWithin, IsCaller, event_of}
+use Rattle.entry_base.specs.Callers.{AreVariables, ArePublishable, AreWithin, IsCaller, event_of}
 use Rattle.entry_base.specs.Facts.{IsKnown}
 use Rattle.entry_base.specs.Lists.{Has, count_in, without_one}
 use Rattle.entry_base.specs.Openings.{sizes_in, start_of}
@@ -222,5 +222,5 @@ scans key slots id me o caller passed = keeps_by key slots id me (header_place o
 
 pub scanned_calls : (key : Opening) (v : View) (o : ℕ) (w : View) → IsCaller key v → Scanned v o w → IsCaller key w
 scanned_calls key v o w caller scanned =
-    caller_stays key v w caller scanned.same scanned.extends.lawful (subst (AreVariables key) (sym scanned.own.vars) caller.variables)
+    caller_stays key v w caller scanned.same scanned.extends.lawful (subst (AreVariables key) (sym scanned.own.vars) caller.variables) (subst (ArePublishable key) (sym scanned.own.pending) caller.pending)
     (subst (AreWithin key) (sym scanned.hands) (each_without (λ q. q < (sizes_in key).objects) (o ∷ []) v.hands caller.hands))

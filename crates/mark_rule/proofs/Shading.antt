@@ -20,7 +20,7 @@ use Rattle.word_laws.proofs.NearWords.{IsNear-set}
 use Rattle.entry_base.specs.declared.view.Fact.TheVariants as fact
 use Rattle.entry_base.specs.declared.view.Opening.{Opening}
 use Rattle.entry_base.specs.declared.view.View.{View}
-use Rattle.entry_base.specs.Callers.{AreVariables, AreWithin, IsCaller}
+use Rattle.entry_base.specs.Callers.{AreVariables, ArePublishable, AreWithin, IsCaller}
 use Rattle.entry_base.specs.Facts.{TableKnows}
 use Rattle.entry_base.specs.Lists.{Has, count_in}
 use Rattle.entry_base.specs.Openings.{phase_of, sizes_in}
@@ -154,7 +154,7 @@ shades key slots id me o caller made traced = keeps_by key slots id me (header_p
 -- its object is within the limit, so the shader still calls
 pub shaded_calls : (key : Opening) (v : View) (o found : ℕ) (w : View) → IsCaller key v → Shaded v o found w → o < (sizes_in key).objects → IsCaller key w
 shaded_calls key v o found w caller shaded made =
-    caller_stays key v w caller shaded.same shaded.looks.lawful (subst (AreVariables key) (sym shaded.own.vars) caller.variables)
+    caller_stays key v w caller shaded.same shaded.looks.lawful (subst (AreVariables key) (sym shaded.own.vars) caller.variables) (subst (ArePublishable key) (sym shaded.own.pending) caller.pending)
     (subst (AreWithin key) (sym shaded.hands) (go (found % 2 == 0)))
   where
     go : (b : Bool) → AreWithin key (if b then o ∷ v.hands else v.hands)

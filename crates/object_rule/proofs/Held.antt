@@ -10,7 +10,7 @@ use Rattle.plain_table.specs.Words.{object_word}
 use Rattle.plain_table.proofs.PlaceReads.{read_pair}
 use Rattle.entry_base.specs.declared.view.Opening.{Opening}
 use Rattle.entry_base.specs.declared.view.View.{View}
-use Rattle.entry_base.specs.Callers.{AreVariables, AreWithin, IsCaller}
+use Rattle.entry_base.specs.Callers.{AreVariables, ArePublishable, AreWithin, IsCaller}
 use Rattle.entry_base.specs.Histories.{IsPhaseHistory}
 use Rattle.entry_base.specs.Numbers.{HasNumber}
 use Rattle.entry_base.specs.Openings.{sizes_in}
@@ -81,6 +81,7 @@ module _ (v w : View) (var word : ℕ) (is : SetVariable v var word w) where
   set_calls key caller lawful low =
       caller_stays key v w caller is.same lawful
       (subst (AreVariables key) (sym is.vars) (variables_set key v.vars (16 * v.number + var) word caller.variables low))
+      (subst (ArePublishable key) (sym is.rest.0) caller.pending)
       (subst (AreWithin key) (sym is.rest.3) caller.hands)
 
   pub set_tied : (x : Parts) → IsTied x v → IsTied (record x { vars = slice_set x.vars (16 * x.number + var) word }) w

@@ -21,7 +21,7 @@ module _ (v w : View) (var n found : ℕ) where
         set_calls v w var (n + 1) (record { same = t.same; rest = t.rest; vars = t.vars }) key caller t.extends.lawful low
     | inr other ↦
         let t = (new.lost other.1).seen in
-        caller_same key v w caller t.loaded.same t.looks.lawful t.loaded.own.vars t.loaded.hands
+        caller_same key v w caller t.loaded.same t.looks.lawful t.loaded.own.vars t.loaded.own.pending t.loaded.hands
   ]
 
   pub made_tied : (x : Parts) → IsTied x v → NewObject v var n found w → found ≡ n → IsTied (record x { vars = slice_set x.vars (16 * x.number + var) (n + 1) }) w

@@ -1,12 +1,15 @@
 // Steps on fields.
-ghost use Rattle.std.specs.Prelude.{◌↔◌, ◌+◌, ◌*◌, ◌/◌, ◌%◌, ◌<◌, ◌==◌, if◌then◌else◌, ℕ, Some};
+ghost use Rattle.std.specs.Prelude.{◌↔◌, ◌+◌, ◌*◌, ◌/◌, ◌%◌, ◌^◌, ◌<◌, ◌==◌, if◌then◌else◌, ℕ, Some};
 ghost use Rattle.plain_table.specs.declared.events.Field.TheVariants as field;
 ghost use Rattle.plain_table.specs.declared.events.Space.TheVariants.{External, Trusted};
 ghost use Rattle.plain_table.specs.Index.{index_of};
 ghost use Rattle.plain_table.specs.Places.{object_of};
+ghost use Rattle.plain_table.specs.Rows.{IsTag};
+ghost use Rattle.plain_table.specs.Table.{limit_in};
 ghost use Rattle.entry_base.specs.declared.view.Fact.TheVariants as fact;
 ghost use Rattle.entry_base.specs.declared.view.View.{View as Known};
 ghost use Rattle.entry_base.specs.Lists.{Has};
+ghost use Rattle.entry_base.specs.Openings.{sizes_in};
 ghost use Rattle.entry_base.specs.Owns.{claim_of, IsHeld};
 ghost use Rattle.entry_base.specs.Sessions.{view, IsOf};
 ghost use Rattle.object_rule.specs.Fields.{Named, NamedTrusted, Bound, BoundTrusted, BoundShared, IsMarkedInCycle, Forged};
@@ -108,6 +111,8 @@ fn bind_trusted_as<N: Learning>(
     requires held { IsHeld (view s.old) object }
     requires filled { Has (view s.old).fresh (claim_of (view s.old) Trusted (index_of word)) }
     requires cell { Has (view s.old).facts (fact.Trusted (index_of word) tag value) }
+    requires inside { index_of word < limit_in (sizes_in (view s.old).opening) Trusted }
+    requires tagged { IsTag tag × (value < 2 ^ 48) }
     requires picked { (found : ℕ) (v w : Known) → N.learns found v w ↔ BoundTrusted v object word tag value found w }
     ensures caller { IsOf shared.now s.new }
     ensures learned { BoundTrusted (view s.old) object word tag value result (view s.new) }
@@ -141,6 +146,8 @@ pub fn bind_trusted(
     requires held { IsHeld (view s.old) object }
     requires filled { Has (view s.old).fresh (claim_of (view s.old) Trusted (index_of word)) }
     requires cell { Has (view s.old).facts (fact.Trusted (index_of word) tag value) }
+    requires inside { index_of word < limit_in (sizes_in (view s.old).opening) Trusted }
+    requires tagged { IsTag tag × (value < 2 ^ 48) }
     ensures caller { IsOf shared.now s.new }
     ensures learned { BoundTrusted (view s.old) object word tag value result (view s.new) }
 {

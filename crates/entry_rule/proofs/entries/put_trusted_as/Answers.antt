@@ -32,4 +32,4 @@ pub returns-clause-caller : goal.returns-clause-caller
 returns-clause-caller g c =
     let r = c.requires in
     let t : PutTrusted c.args.s.now.seat.me.0 c.args.index c.args.tag c.args.value c.swap.new.seat.me.0 = (r.picked _ c.args.s.now.seat.me.0 _).0 c.swap.ensures.2.0 in
-    (c.swap.ensures.0 ∙ r.caller.0, caller_same _ c.args.s.now.seat.me.0 _ r.caller.1 (t.put.same) (t.put.extends.lawful) (t.put.rest.0) (t.put.rest.2))
+    (c.swap.ensures.0 ∙ r.caller.0, caller_same _ c.args.s.now.seat.me.0 _ r.caller.1 (t.put.same) (t.put.extends.lawful) (t.put.rest.0) (t.put.rest.1) (t.put.rest.2))

@@ -31,4 +31,4 @@ pub returns-clause-caller : goal.returns-clause-caller
 returns-clause-caller g c =
     let r = c.requires in
     let t : LookedAt c.args.s.now.seat.me.0 c.args.space c.args.word c.args.first c.args.last c.load.result c.load.new.seat.me.0 = (r.picked _ c.args.s.now.seat.me.0 _).0 c.load.ensures.2.0 in
-    (c.load.ensures.0 ∙ r.caller.0, caller_same _ c.args.s.now.seat.me.0 _ r.caller.1 (t.answered.same) (t.answered.extends.lawful) (t.answered.own.vars) (t.answered.hands))
+    (c.load.ensures.0 ∙ r.caller.0, caller_same _ c.args.s.now.seat.me.0 _ r.caller.1 (t.answered.same) (t.answered.extends.lawful) (t.answered.own.vars) (t.answered.own.pending) (t.answered.hands))

@@ -1,10 +1,9 @@
 use Rattle.std.proofs.Common.{◌∙◌, ◌+◌, ◌*◌, ◌^◌, sym, subst, arith, set, None}
 use Rattle.entry_base.proofs.Steps.{learned_at}
 use Rattle.entry_base.specs.Tied.{IsTied}
-use Rattle.entry_base.proofs.OneByOne.{caller_same}
 use Rattle.entry_base.proofs.TiedParts.{tied_ticket}
 use Rattle.entry_rule.specs.Looks.{stored_word, Published}
-use Rattle.entry_rule.proofs.Publishes.{publishes}
+use Rattle.entry_rule.proofs.Publishes.{published_calls, publishes}
 use Rattle.entry_rule.proofs.looks.publish_step_as.Goals as goal
 
 pub swap-found-requires : goal.swap-found-requires
@@ -32,4 +31,4 @@ pub returns-clause-caller : goal.returns-clause-caller
 returns-clause-caller g c =
     let r = c.requires in
     let t : Published c.args.s.now.seat.me.0 c.args.index c.swap-found.new.seat.me.0 = (r.picked _ c.args.s.now.seat.me.0 _).0 c.swap-found.ensures.2.0 in
-    (c.swap-found.ensures.0 ∙ r.caller.0, caller_same _ c.args.s.now.seat.me.0 _ r.caller.1 (t.same) (t.extends.lawful) (t.rest.0) (t.rest.3))
+    (c.swap-found.ensures.0 ∙ r.caller.0, published_calls _ c.args.s.now.seat.me.0 c.args.index _ r.caller.1 t)

@@ -33,4 +33,4 @@ pub returns-clause-caller : goal.returns-clause-caller
 returns-clause-caller g c =
     let r = c.requires in
     let t : LinkedEntry c.args.s.now.seat.me.0 c.args.space c.args.index c.compare_exchange.new.seat.me.0 = (r.picked _ c.args.s.now.seat.me.0 _).0 c.compare_exchange.ensures.2.0 in
-    (c.compare_exchange.ensures.0 ∙ r.caller.0, caller_same _ c.args.s.now.seat.me.0 _ r.caller.1 (t.same) (t.looks.lawful) (t.own.vars) (t.hands))
+    (c.compare_exchange.ensures.0 ∙ r.caller.0, caller_same _ c.args.s.now.seat.me.0 _ r.caller.1 (t.same) (t.looks.lawful) (t.own.vars) (t.own.pending) (t.hands))

@@ -36,4 +36,4 @@ pub returns-clause-caller : goal.returns-clause-caller
 returns-clause-caller g c =
     let r = c.requires in
     let t : WordLoaded c.args.s.now.seat.me.0 (limit_in (sizes_in c.args.s.now.seat.me.0.opening) (space_of (field_of c.args.object c.args.f))) (field_of c.args.object c.args.f) c.load.result c.load.new.seat.me.0 = (r.picked _ c.args.s.now.seat.me.0 _).0 c.load.ensures.2.0 in
-    (c.load.ensures.0 ∙ r.caller.0, caller_same _ c.args.s.now.seat.me.0 _ r.caller.1 (t.loaded.same) (t.loaded.looks.lawful) (t.loaded.own.vars) (t.loaded.hands))
+    (c.load.ensures.0 ∙ r.caller.0, caller_same _ c.args.s.now.seat.me.0 _ r.caller.1 (t.loaded.same) (t.loaded.looks.lawful) (t.loaded.own.vars) (t.loaded.own.pending) (t.loaded.hands))

@@ -34,4 +34,4 @@ pub returns-clause-caller : goal.returns-clause-caller
 returns-clause-caller g c =
     let r = c.requires in
     let t : MarkExchanged c.args.s.now.seat.me.0 c.args.space (index_of c.args.word) c.args.entry c.compare_exchange.result c.compare_exchange.new.seat.me.0 = (r.picked _ c.args.s.now.seat.me.0 _).0 c.compare_exchange.ensures.2.0 in
-    (c.compare_exchange.ensures.0 ∙ r.caller.0, caller_same _ c.args.s.now.seat.me.0 _ r.caller.1 (t.marked.same) (t.marked.extends.lawful) (t.marked.own.vars) (t.marked.hands))
+    (c.compare_exchange.ensures.0 ∙ r.caller.0, caller_same _ c.args.s.now.seat.me.0 _ r.caller.1 (t.marked.same) (t.marked.extends.lawful) (t.marked.own.vars) (t.marked.own.pending) (t.marked.hands))

@@ -33,4 +33,4 @@ pub returns-clause-caller : goal.returns-clause-caller
 returns-clause-caller g c =
     let r = c.requires in
     let t : BoundShared c.args.s.now.seat.me.0 c.args.object c.args.word c.compare_exchange.result c.compare_exchange.new.seat.me.0 = (r.picked _ c.args.s.now.seat.me.0 _).0 c.compare_exchange.ensures.2.0 in
-    (c.compare_exchange.ensures.0 ∙ r.caller.0, caller_same _ c.args.s.now.seat.me.0 _ r.caller.1 (t.answered.same) (t.answered.extends.lawful) (t.answered.own.vars) (t.answered.hands))
+    (c.compare_exchange.ensures.0 ∙ r.caller.0, caller_same _ c.args.s.now.seat.me.0 _ r.caller.1 (t.answered.same) (t.answered.extends.lawful) (t.answered.own.vars) (t.answered.own.pending) (t.answered.hands))

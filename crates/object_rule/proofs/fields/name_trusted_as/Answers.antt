@@ -32,4 +32,4 @@ pub returns-clause-caller : goal.returns-clause-caller
 returns-clause-caller g c =
     let r = c.requires in
     let t : NamedTrusted c.args.s.now.seat.me.0 c.args.object c.load.result c.load.new.seat.me.0 = (r.picked _ c.args.s.now.seat.me.0 _).0 c.load.ensures.2.0 in
-    (c.load.ensures.0 ∙ r.caller.0, caller_same _ c.args.s.now.seat.me.0 _ r.caller.1 (t.named.answered.same) (t.named.answered.extends.lawful) (t.named.answered.own.vars) (t.named.answered.hands))
+    (c.load.ensures.0 ∙ r.caller.0, caller_same _ c.args.s.now.seat.me.0 _ r.caller.1 (t.named.answered.same) (t.named.answered.extends.lawful) (t.named.answered.own.vars) (t.named.answered.own.pending) (t.named.answered.hands))

@@ -33,4 +33,4 @@ pub returns-clause-caller : goal.returns-clause-caller
 returns-clause-caller g c =
     let r = c.requires in
     let t : LinkedTo c.args.s.now.seat.me.0 (Ref c.args.object c.args.k) c.args.target c.swap.new.seat.me.0 = (r.picked _ c.args.s.now.seat.me.0 _).0 c.swap.ensures.2.0 in
-    (c.swap.ensures.0 ∙ r.caller.0, caller_same _ c.args.s.now.seat.me.0 _ r.caller.1 (t.same) (t.extends.lawful) (t.own.vars) (t.hands))
+    (c.swap.ensures.0 ∙ r.caller.0, caller_same _ c.args.s.now.seat.me.0 _ r.caller.1 (t.same) (t.extends.lawful) (t.own.vars) (t.own.pending) (t.hands))
