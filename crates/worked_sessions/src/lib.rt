@@ -6,6 +6,16 @@
 #![tactic(auto)]
 
 #[cfg(test)]
+mod closings;
+#[cfg(test)]
+mod entry_tests;
+#[cfg(test)]
+mod mark_tests;
+#[cfg(test)]
+mod object_tests;
+#[cfg(test)]
 mod openings;
+#[cfg(test)]
+mod segment_tests;
 #[cfg(test)]
 mod session_tests;

@@ -1,0 +1,241 @@
+// Entries on one thread: an index is taken, filled with a cell, looked at, stored into and exchanged, in both spaces.
+ghost use Rattle.std.specs.Prelude.{◌≡◌, ◌+◌, ◌%◌, ◌^◌, ◌<◌, List, [], ◌∷◌, slice_index};
+ghost use Rattle.plain_table.specs.declared.events.Act.TheVariants as act;
+ghost use Rattle.plain_table.specs.declared.events.Event.{Event};
+ghost use Rattle.plain_table.specs.declared.events.Space.TheVariants.{External, Trusted};
+ghost use Rattle.plain_table.specs.declared.reports.Reply.TheVariants as reply;
+ghost use Rattle.plain_table.specs.Table.{limit_in};
+ghost use Rattle.entry_base.specs.Callers.{SameCaller, IsClosed, event_of};
+ghost use Rattle.entry_base.specs.Learned.{Answered};
+ghost use Rattle.entry_base.specs.Lists.{Has, StartsWith, without_one};
+ghost use Rattle.entry_base.specs.Openings.{sizes_in, opening_of};
+ghost use Rattle.entry_base.specs.Owns.{claim_of};
+ghost use Rattle.entry_base.specs.Sessions.{view, IsOf};
+ghost use Rattle.entry_base.specs.Views.{numbers_below};
+
+use crate::closings::{close_both, close_whole, word_at};
+use crate::openings::open_fresh;
+use entry_base::{Session, Shared};
+use entry_rule::{exchange_step, look_step, put_external, put_trusted, store_step};
+use entry_word::{Image, Shape};
+use freelist_rule::{Steps, load_freelist, load_freelist_for_take, load_link, take_step};
+use plain_table::{OutOfMemory, Space};
+use std::alloc::Global;
+use std::marker::Brand;
+use std::process::Abort;
+use std::sync::ledger::{Blank, Ledger};
+
+pub(crate) const SHAPE: Shape = Shape {
+    seg: 4,
+    ext: 2,
+    tru: 1,
+    objects: 4,
+};
+
+/// Takes the head of a space, whose freelist word is expected to be `word`, and whose head links `next`.
+pub(crate) fn take_head<L: Ledger>(
+    rt: &impl Abort,
+    shared: &Shared,
+    s: &mut Session,
+    space: Space,
+    word: u64,
+    next: u32,
+    steps: &mut Steps<L>,
+) -> u32
+    requires caller { IsOf shared.now s.old }
+    ensures caller { IsOf shared.now s.new }
+    ensures same { SameCaller (view s.old) (view s.new) }
+    ensures head { result ≡ word % 2 ^ 32 }
+    ensures inside { result < limit_in (sizes_in (view s.new).opening) space }
+    ensures owed { Has (view s.new).owed (claim_of (view s.new) space result) }
+    ensures ticked { steps.new ≡ steps.old + 1 }
+{
+    let found = load_freelist(shared, s, space);
+    assert_eq!(rt; found, word);
+    assert!(rt; found / (1 << 32) != 0);
+    let link = load_link(shared, s, space, found);
+    assert_eq!(rt; link, (1 << 56) + next as u64);
+    let Ok(index) = take_step(shared, s, space, found, next, steps) else {
+        panic!(rt; "the freelist word changed");
+    };
+    index
+}
+
+/// Takes the two last indexes of the first segment of a space.
+pub(crate) fn take_two<L: Ledger>(
+    rt: &impl Abort,
+    shared: &Shared,
+    s: &mut Session,
+    space: Space,
+    steps: &mut Steps<L>,
+)
+    requires caller { IsOf shared.now s.old }
+    ensures caller { IsOf shared.now s.new }
+    ensures same { SameCaller (view s.old) (view s.new) }
+    ensures ticked { steps.new ≡ steps.old + 2 }
+{
+    let second = take_head(rt, shared, s, space, 0x2_0000_0002, 3, steps);
+    let third = take_head(rt, shared, s, space, 0x1_0000_0003, 4, steps);
+    assert_eq!(rt; second, 2);
+    assert_eq!(rt; third, 3);
+}
+
+/// Looks at the external cell at index 1 under its tag, which answers its value.
+fn look_under_tag(rt: &impl Abort, shared: &Shared, s: &mut Session)
+    requires caller { IsOf shared.now s.old }
+    requires inside { 1 < limit_in (sizes_in (view s.old).opening) External }
+    ensures caller { IsOf shared.now s.new }
+    ensures answered { Answered (view s.old) (event_of (view s.old) (act.Look External 65536 15 15) (reply.Value 192)) (view s.new) }
+{
+    let found = look_step(shared, s, Space::External, 0x1_0000, 0x0f, 0x0f);
+    assert_eq!(rt; found, 0x400f_0000_0000_00c0);
+}
+
+/// Looks at it under other tags, which answers a fault.
+fn look_under_others(rt: &impl Abort, shared: &Shared, s: &mut Session)
+    requires caller { IsOf shared.now s.old }
+    requires inside { 1 < limit_in (sizes_in (view s.old).opening) External }
+    ensures caller { IsOf shared.now s.new }
+    ensures answered { Answered (view s.old) (event_of (view s.old) (act.Look External 65536 16 255) reply.Fault) (view s.new) }
+{
+    let found = look_step(shared, s, Space::External, 0x1_0000, 0x10, 0xff);
+    assert_eq!(rt; found, 0x400f_0000_0000_00c0);
+}
+
+/// Looks at the hidden trusted cell at index 1 under its tag, which answers a fault.
+fn look_at_hidden(rt: &impl Abort, shared: &Shared, s: &mut Session)
+    requires caller { IsOf shared.now s.old }
+    requires inside { 1 < limit_in (sizes_in (view s.old).opening) Trusted }
+    ensures caller { IsOf shared.now s.new }
+    ensures answered { Answered (view s.old) (event_of (view s.old) (act.Look Trusted 65536 15 15) reply.Fault) (view s.new) }
+{
+    let found = look_step(shared, s, Space::Trusted, 0x1_0000, 0x0f, 0x0f);
+    assert_eq!(rt; found, 0x480f_0000_0000_00c0);
+}
+
+fn put_and_store<L: Ledger>(rt: &impl Abort, alloc: Global, blank: Blank) -> Result<(), OutOfMemory>
+    requires name { blank.name ≡ L.name }
+    requires parts { blank.parts ≡ L.parts }
+    requires one { blank.parts ≡ 1 }
+{
+    let (shared, mut session) = open_fresh(alloc, SHAPE)?;
+    let mut steps = Steps::<L>::start(blank);
+    let None = session.area() else {
+        panic!(rt; "a fresh image has an area");
+    };
+    let index = take_head(
+        rt,
+        &shared,
+        &mut session,
+        Space::External,
+        0x3_0000_0001,
+        2,
+        &mut steps,
+    );
+    put_external(&shared, &mut session, index, 0x0f, 0xc0);
+    look_under_tag(rt, &shared, &mut session);
+    look_under_others(rt, &shared, &mut session);
+    store_step(&shared, &mut session, 0x1_0000, 0x0f, 0x0f, 0x0f, 0xd0);
+    let stored = exchange_step(&shared, &mut session, 0x1_0000, 0x0f, 0x0f, 0x0f, 0xe0);
+    let exchanged = look_step(&shared, &mut session, Space::External, 0x1_0000, 0x0f, 0x0f);
+    let image = close_whole(shared, session);
+    assert_eq!(rt; index, 1);
+    assert_eq!(rt; stored, 0x400f_0000_0000_00d0);
+    assert_eq!(rt; exchanged, 0x400f_0000_0000_00e0);
+    assert_eq!(rt; word_at(rt, &image, 0), 0x2_0000_0002);
+    assert_eq!(rt; word_at(rt, &image, 65), 0x400f_0000_0000_00e0);
+    Ok(())
+}
+
+/// Takes with a freelist word that another session's take made stale.
+fn take_with_stale_word<L: Ledger>(
+    rt: &impl Abort,
+    shared: &Shared,
+    first: &mut Session,
+    other: &mut Session,
+    steps: &mut Steps<L>,
+)
+    requires callers { IsOf shared.now first.old × IsOf shared.now other.old }
+    ensures callers { IsOf shared.now first.new × IsOf shared.now other.new }
+    ensures same { SameCaller (view first.old) (view first.new) × SameCaller (view other.old) (view other.new) }
+    ensures ticked { steps.new ≡ steps.old + 2 }
+{
+    let stale = load_freelist(shared, other, Space::External);
+    assert_eq!(rt; stale, 0x3_0000_0001);
+    let link = load_link(shared, other, Space::External, stale);
+    assert_eq!(rt; link, (1 << 56) + 2);
+    let index = take_head(rt, shared, first, Space::External, 0x3_0000_0001, 2, steps);
+    assert_eq!(rt; index, 1);
+    let missed = take_step(shared, other, Space::External, stale, 2, steps);
+    assert_eq!(rt; missed, Err(0x2_0000_0002));
+}
+
+fn split_and_miss<L: Ledger>(
+    rt: &impl Abort,
+    alloc: Global,
+    blank: Blank,
+) -> Result<(), OutOfMemory>
+    requires name { blank.name ≡ L.name }
+    requires parts { blank.parts ≡ L.parts }
+    requires one { blank.parts ≡ 1 }
+{
+    let (shared, mut first) = open_fresh(alloc, SHAPE)?;
+    let mut other = first.split(&shared, 0, &[]);
+    let mut steps = Steps::<L>::start(blank);
+    take_with_stale_word(rt, &shared, &mut first, &mut other, &mut steps);
+    let image = close_both(shared, first, other);
+    assert_eq!(rt; word_at(rt, &image, 0), 0x2_0000_0002);
+    Ok(())
+}
+
+/// Takes an index of the trusted space, fills it with a cell, and looks at it.
+fn put_trusted_and_look<L: Ledger>(
+    rt: &impl Abort,
+    shared: &Shared,
+    s: &mut Session,
+    steps: &mut Steps<L>,
+)
+    requires caller { IsOf shared.now s.old }
+    requires shape { (view s.old).opening.shape ≡ SHAPE }
+    ensures caller { IsOf shared.now s.new }
+    ensures same { SameCaller (view s.old) (view s.new) }
+    ensures ticked { steps.new ≡ steps.old + 1 }
+{
+    let index = take_head(rt, shared, s, Space::Trusted, 0x3_0000_0001, 2, steps);
+    put_trusted(shared, s, index, 0x0f, 0xc0);
+    look_at_hidden(rt, shared, s);
+}
+
+fn fill_trusted<L: Ledger>(rt: &impl Abort, alloc: Global, blank: Blank) -> Result<(), OutOfMemory>
+    requires name { blank.name ≡ L.name }
+    requires parts { blank.parts ≡ L.parts }
+    requires one { blank.parts ≡ 1 }
+{
+    let (shared, mut session) = open_fresh(alloc, SHAPE)?;
+    let mut steps = Steps::<L>::start(blank);
+    put_trusted_and_look(rt, &shared, &mut session, &mut steps);
+    take_two(rt, &shared, &mut session, Space::Trusted, &mut steps);
+    let spent = load_freelist_for_take(&shared, &mut session, Space::Trusted);
+    let image = close_whole(shared, session);
+    assert_eq!(rt; spent, 4);
+    assert_eq!(rt; word_at(rt, &image, 2), 4);
+    assert_eq!(rt; word_at(rt, &image, 73), 0x480f_0000_0000_00c0);
+    Ok(())
+}
+
+#[test]
+fn a_cell_is_put_looked_at_stored_into_and_exchanged(rt: HostRuntime) -> Result<(), OutOfMemory> {
+    put_and_store::<Brand>(&rt, rt.alloc(), Blank::new(1))
+}
+
+#[test]
+fn a_take_with_a_stale_word_answers_the_word_found(rt: HostRuntime) -> Result<(), OutOfMemory> {
+    split_and_miss::<Brand>(&rt, rt.alloc(), Blank::new(1))
+}
+
+#[test]
+fn a_trusted_cell_is_hidden_and_the_full_space_is_spent(
+    rt: HostRuntime,
+) -> Result<(), OutOfMemory> {
+    fill_trusted::<Brand>(&rt, rt.alloc(), Blank::new(1))
+}
