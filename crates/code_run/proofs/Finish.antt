@@ -251,7 +251,7 @@ module _ (old s a b c d t1 t2 t3 w xa xb xc xd : View) (n : ℕ) (wa wb : WriteC
       go y h true t =
           let same : y.at ≡ i = grind (arith, nat_tests) in
           let within : h.place < length (list_at w.seen i) = subst (λ (m : ℕ). h.place < length (list_at w.seen m)) same h.within in
-          let behind = h.behind in
+          let past = h.past in
           absurd (omega arith)
       go y h false t = refl
 

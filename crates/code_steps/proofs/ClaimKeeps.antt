@@ -48,7 +48,7 @@ module _ (words : List ℕ) (views : List View) (id : ℕ) (v : View) (i old : �
     sizes = (kn.sizes.0, grown_long v.shown i (old ∷ []) ∙ kn.sizes.1);
     seen = kn.seen;
     some = kn.some;
-    told = kn.told;
+    common = kn.common;
     own = kn.own;
     shown = shown_more (set words (3 * i) (old + 1)) v.shown i old (let a = kn.sizes.0 in let b = kn.sizes.1 in omega arith) (let a = sequence_here words i (old + 1) room in omega arith)
         (shown_stays words (set words (3 * i) (old + 1)) v.shown (risen k.lists k.lists words (set words (3 * i) (old + 1)) i change) kn.shown);
@@ -98,8 +98,8 @@ claims slots id me i old alive free low here even = allows slots id me (3 * i) (
         let v = me.0 in
         let found : sequence_word words i ≡ old = grind (arith, nat_tests) in
         let w : View = holder v i old words in
-        let told : Claimed v i old (sequence_word words i) w = record { same = record { parts = refl; start = refl; earlier = refl }; seen = refl; own = refl; shown = ap (λ (n : ℕ). grown_at v.shown i (n ∷ [])) (sym found); rises = known_below k.start k.lists words v (k.knows id v at alive) i; at = sym here; holds = sym e; first = λ _. refl } in
-        (w, kept_claim words views id v i old k at alive free low here even found, ((λ j same. subst (λ (n : ℕ). Claimed v n old (sequence_word words i) w) (omega arith) told), refl))
+        let common : Claimed v i old (sequence_word words i) w = record { same = record { parts = refl; start = refl; earlier = refl }; seen = refl; own = refl; shown = ap (λ (n : ℕ). grown_at v.shown i (n ∷ [])) (sym found); rises = known_below k.start k.lists words v (k.knows id v at alive) i; at = sym here; holds = sym e; first = λ _. refl } in
+        (w, kept_claim words views id v i old k at alive free low here even found, ((λ j same. subst (λ (n : ℕ). Claimed v n old (sequence_word words i) w) (omega arith) common), refl))
     go words views k at false e =
         let v = me.0 in
         let found : ℕ = sequence_word words i in
@@ -111,7 +111,7 @@ claims slots id me i old alive free low here even = allows slots id me (3 * i) (
           sizes = (kn.sizes.0, grown_long v.shown i (found ∷ []) ∙ kn.sizes.1);
           seen = kn.seen;
           some = kn.some;
-          told = kn.told;
+          common = kn.common;
           own = kn.own;
           shown = shown_more words v.shown i found (let a = kn.sizes.0 in let b = kn.sizes.1 in omega arith) (omega arith) kn.shown;
           earlier = kn.earlier;
@@ -120,5 +120,5 @@ claims slots id me i old alive free low here even = allows slots id me (3 * i) (
           read = kn.read;
           held = kn.held;
         } in
-        let told : Claimed v i old found w = record { same = record { parts = refl; start = refl; earlier = refl }; seen = refl; own = refl; shown = refl; rises = known_below k.start k.lists words v kn i; at = refl; holds = free ∙ sym e; first = λ is. absurd (other is) } in
-        (w, loads words (set views id w) (3 * i) (quiet words views id v w k at alive refl free free refl mine), ((λ j same. subst (λ (n : ℕ). Claimed v n old found w) (omega arith) told), refl))
+        let common : Claimed v i old found w = record { same = record { parts = refl; start = refl; earlier = refl }; seen = refl; own = refl; shown = refl; rises = known_below k.start k.lists words v kn i; at = refl; holds = free ∙ sym e; first = λ is. absurd (other is) } in
+        (w, loads words (set views id w) (3 * i) (quiet words views id v w k at alive refl free free refl mine), ((λ j same. subst (λ (n : ℕ). Claimed v n old found w) (omega arith) common), refl))

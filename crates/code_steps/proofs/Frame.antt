@@ -34,7 +34,7 @@ pub store_stays : (opening : ℕ) (lists longer seen more : List (List Pair)) �
 store_stays opening lists longer seen more grows begins up own all = each_map (IsSeenStore opening lists seen) (IsSeenStore opening longer more) own (λ x s. record {
   place = s.place;
   seq = s.seq;
-  behind = s.behind;
+  past = s.past;
   within = let a = s.within in let b = up x.at in omega arith;
   pair = starts_read (list_at longer x.at) (list_at lists x.at) s.place (0, 0) (grows x.at) (let a = s.within in let b = starts_long (list_at lists x.at) (list_at seen x.at) (begins x.at) in omega arith) ∙ s.pair;
 }) all
@@ -52,7 +52,7 @@ frame opening lists longer was now i u c apart k = record {
   sizes = (k.sizes.0 ∙ sym c.count, k.sizes.1 ∙ sym c.count);
   seen = λ j. starts_trans (list_at longer j) (list_at lists j) (list_at u.seen j) (c.grows j) (k.seen j);
   some = λ j low. k.some j (let a = c.count in omega arith);
-  told = k.told;
+  common = k.common;
   own = store_stays opening lists longer u.seen u.seen c.grows k.seen (λ j. omega arith) u.own k.own;
   shown = shown_stays was now u.shown up k.shown;
   earlier = (k.earlier.0 ∙ sym c.count, shown_stays was now u.earlier up k.earlier.1);

@@ -18,8 +18,8 @@ use Rattle.code_steps.proofs.Steps.{views_set, same_words, holds_free}
 pub seen_both : (v u : View) → length v.seen ≡ length u.seen → (i : ℕ) → list_at (both v u).seen i ≡ longer (list_at v.seen i) (list_at u.seen i)
 seen_both v u same i = of_both_at longer v.seen u.seen i refl same
 
-told_both : (v u : View) → length v.seen ≡ length u.seen → (i : ℕ) → list_at (both v u).told i ≡ shorter (list_at v.seen i) (list_at u.seen i)
-told_both v u same i = of_both_at shorter v.seen u.seen i refl same
+common_both : (v u : View) → length v.seen ≡ length u.seen → (i : ℕ) → list_at (both v u).common i ≡ shorter (list_at v.seen i) (list_at u.seen i)
+common_both v u same i = of_both_at shorter v.seen u.seen i refl same
 
 shown_both : (v u : View) → length v.shown ≡ length u.shown → (i : ℕ) → list_at (both v u).shown i ≡ list_at v.shown i ++ list_at u.shown i
 shown_both v u same i = of_both_at in_turn v.shown u.shown i refl same
@@ -31,8 +31,8 @@ knows_both opening lists words v u kn ku = record {
   sizes = (of_both_long longer v.seen u.seen same ∙ kn.sizes.0, of_both_long in_turn v.shown u.shown same_shown ∙ kn.sizes.1);
   seen = λ i. subst (StartsWith (list_at lists i)) (sym (seen_both v u same i)) (one_of (StartsWith (list_at lists i)) _ (list_at u.seen i) (list_at v.seen i) (ku.seen i) (kn.seen i));
   some = λ i low. let a = kn.some i low in let b = up i in omega arith;
-  told = λ i. let t = (longer_starts (list_at lists i) (list_at v.seen i) (list_at u.seen i) (kn.seen i) (ku.seen i)).0 in
-      subst (λ (l : List Pair). StartsWith l (list_at (both v u).told i)) (sym (seen_both v u same i)) (subst (StartsWith (longer (list_at v.seen i) (list_at u.seen i))) (sym (told_both v u same i)) t);
+  common = λ i. let t = (longer_starts (list_at lists i) (list_at v.seen i) (list_at u.seen i) (kn.seen i) (ku.seen i)).0 in
+      subst (λ (l : List Pair). StartsWith l (list_at (both v u).common i)) (sym (seen_both v u same i)) (subst (StartsWith (longer (list_at v.seen i) (list_at u.seen i))) (sym (common_both v u same i)) t);
   own = each_append (IsSeenStore opening lists (both v u).seen) v.own u.own
       (store_stays opening lists lists v.seen (both v u).seen (λ j. starts_self (list_at lists j)) kn.seen up v.own kn.own)
       (store_stays opening lists lists u.seen (both v u).seen (λ j. starts_self (list_at lists j)) ku.seen up_other u.own ku.own);
@@ -101,11 +101,11 @@ both_place words v u p q =
     }
 
 -- the joined lists begin with those of each
-pub begins_both : (v u : View) → length v.seen ≡ length u.seen → ((i : ℕ) → StartsWith (list_at (both v u).seen i) (list_at (both v u).told i))
+pub begins_both : (v u : View) → length v.seen ≡ length u.seen → ((i : ℕ) → StartsWith (list_at (both v u).seen i) (list_at (both v u).common i))
     → (i : ℕ) → StartsWith (list_at (both v u).seen i) (list_at v.seen i) × StartsWith (list_at (both v u).seen i) (list_at u.seen i)
-begins_both v u same told i =
+begins_both v u same common i =
     let l = seen_both v u same i in
-    let t : StartsWith (longer (list_at v.seen i) (list_at u.seen i)) (shorter (list_at v.seen i) (list_at u.seen i)) = subst (StartsWith (longer (list_at v.seen i) (list_at u.seen i))) (told_both v u same i) (subst (λ (l : List Pair). StartsWith l (list_at (both v u).told i)) l (told i)) in
+    let t : StartsWith (longer (list_at v.seen i) (list_at u.seen i)) (shorter (list_at v.seen i) (list_at u.seen i)) = subst (StartsWith (longer (list_at v.seen i) (list_at u.seen i))) (common_both v u same i) (subst (λ (l : List Pair). StartsWith l (list_at (both v u).common i)) l (common i)) in
     let r = from_shorter (list_at v.seen i) (list_at u.seen i) t in
     (subst (λ (l : List Pair). StartsWith l (list_at v.seen i)) (sym l) r.0, subst (λ (l : List Pair). StartsWith l (list_at u.seen i)) (sym l) r.1)
 

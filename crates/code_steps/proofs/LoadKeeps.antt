@@ -54,7 +54,7 @@ loads_sequence slots id me i alive free low = allows slots id me (3 * i) (λ n. 
           sizes = (grown_long v.seen i more ∙ kn.sizes.0, grown_long v.shown i (found ∷ []) ∙ kn.sizes.1);
           seen = seen_more k.lists v.seen i more low (kn.seen i).1 kn.seen;
           some = λ j l. let a = kn.some j l in let b = starts_long (list_at w.seen j) (list_at v.seen j) (grown_starts v.seen i j more low) in omega arith;
-          told = λ j. starts_trans (list_at w.seen j) (list_at v.seen j) (list_at v.told j) (grown_starts v.seen i j more low) (kn.told j);
+          common = λ j. starts_trans (list_at w.seen j) (list_at v.seen j) (list_at v.common j) (grown_starts v.seen i j more low) (kn.common j);
           own = store_stays k.start k.lists k.lists v.seen w.seen (λ j. starts_self (list_at k.lists j)) kn.seen (λ j. starts_long (list_at w.seen j) (list_at v.seen j) (grown_starts v.seen i j more low)) v.own kn.own;
           shown = shown_more words v.shown i found low_shown (omega arith) kn.shown;
           earlier = kn.earlier;
@@ -76,8 +76,8 @@ loads_sequence slots id me i alive free low = allows slots id me (3 * i) (λ n. 
           is = whole ∙ (s.ends.is ∙ (λ x. s.ends.before ++ (is_code x, is_entry x) ∷ []));
           place = let a = s.ends.place in let b = kn.begins in omega arith;
         } in
-        let told : LoadedSequence v i found w = record { same = record { parts = refl; start = refl; earlier = refl }; free = free; more = more; seen = refl; own = refl; shown = refl; rises = known_below k.start k.lists words v kn i; at = refl; first = refl; pair = pair } in
-        (w, loads words (set views id w) (3 * i) kept, ((λ j e. subst (λ (n : ℕ). LoadedSequence v n found w) (omega arith) told), refl))
+        let common : LoadedSequence v i found w = record { same = record { parts = refl; start = refl; earlier = refl }; free = free; more = more; seen = refl; own = refl; shown = refl; rises = known_below k.start k.lists words v kn i; at = refl; first = refl; pair = pair } in
+        (w, loads words (set views id w) (3 * i) kept, ((λ j e. subst (λ (n : ℕ). LoadedSequence v n found w) (omega arith) common), refl))
 
 pub loads_code : (slots id : ℕ) (me : Me (Unit {0}) View) (i : ℕ) → 0 < me.0.parts → me.0.holds ≡ false → me.0.at ≡ i
     → Allows {S = Unit {0}} {V = View} Ruled slots id me (3 * i + 1) (λ n. n) (loaded_code (step slots (3 * i + 1) 0 0 none) me)
@@ -90,7 +90,7 @@ loads_code slots id me i alive free here = allows slots id me (3 * i + 1) (λ n.
       sizes = kn.sizes;
       seen = kn.seen;
       some = kn.some;
-      told = kn.told;
+      common = kn.common;
       own = kn.own;
       shown = kn.shown;
       earlier = kn.earlier;
@@ -112,7 +112,7 @@ loads_entry slots id me i alive free here = allows slots id me (3 * i + 2) (λ n
       sizes = kn.sizes;
       seen = kn.seen;
       some = kn.some;
-      told = kn.told;
+      common = kn.common;
       own = kn.own;
       shown = kn.shown;
       earlier = kn.earlier;

@@ -36,7 +36,7 @@ module _ (words now : List ℕ) (views : List View) (id : ℕ) (v : View) (i cod
     sizes = kn.sizes;
     seen = kn.seen;
     some = kn.some;
-    told = kn.told;
+    common = kn.common;
     own = kn.own;
     shown = shown_stays words now v.shown (risen k.lists k.lists words now i change) kn.shown;
     earlier = (kn.earlier.0, shown_stays words now v.earlier (risen k.lists k.lists words now i change) kn.earlier.1);

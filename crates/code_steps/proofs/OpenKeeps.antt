@@ -82,7 +82,7 @@ opens start pairs even some_pair = record {
       sizes = (refl, map_long _ pairs ∙ sym (map_long (λ (p : Pair). p ∷ []) pairs));
       seen = λ i. starts_self (list_at (one_each pairs) i);
       some = λ i low. let a = ap length (list_one pairs i (let b = map_long (λ (p : Pair). p ∷ []) pairs in omega arith)) in omega arith;
-      told = λ i. (list_at (one_each pairs) i, refl);
+      common = λ i. (list_at (one_each pairs) i, refl);
       own = tt;
       shown = λ i. subst (Each (λ n. n ≤ sequence_word (words_of start pairs) i)) (sym (none_shown pairs i)) tt;
       earlier = (map_long _ pairs ∙ sym (map_long (λ (p : Pair). p ∷ []) pairs), λ i. subst (Each (λ n. n ≤ sequence_word (words_of start pairs) i)) (sym (none_shown pairs i)) tt);

@@ -109,7 +109,7 @@ module _ (words : List ℕ) (views : List View) (id : ℕ) (v : View) (i seq : �
   new_store = record {
     place = length (list_at k.lists i);
     seq = place;
-    behind = some_pair;
+    past = some_pair;
     within = let a = ap length seen_now in let b = length-append (list_at k.lists i) (p ∷ []) in omega arith;
     pair = ap (λ l. get_or l (length (list_at k.lists i)) (0, 0)) list_now ∙ get_or-append_seam (list_at k.lists i) p [] (0, 0);
   }
@@ -122,7 +122,7 @@ module _ (words : List ℕ) (views : List View) (id : ℕ) (v : View) (i seq : �
         (subst (StartsWith (list_at longer i)) (list_now ∙ sym seen_now) (starts_self (list_at longer i)))
         (λ j ne. subst (StartsWith (list_at longer j)) (sym (grown_else v.seen i j (between ++ p ∷ []) ne)) (starts_trans (list_at longer j) (list_at k.lists j) (list_at v.seen j) (change.grows j) (kn.seen j)));
     some = λ j l. let a = kn.some j (let c = change.count in omega arith) in let b = longer_seen j in omega arith;
-    told = λ j. starts_trans (list_at after.seen j) (list_at v.seen j) (list_at v.told j) (grown_starts v.seen i j (between ++ p ∷ []) low_seen) (kn.told j);
+    common = λ j. starts_trans (list_at after.seen j) (list_at v.seen j) (list_at v.common j) (grown_starts v.seen i j (between ++ p ∷ []) low_seen) (kn.common j);
     own = each_append (IsSeenStore k.start longer after.seen) v.own (store_of i seq p ∷ []) (store_stays k.start k.lists longer v.seen after.seen change.grows kn.seen longer_seen v.own kn.own) (new_store, tt);
     shown = shown_stays words now v.shown (risen k.lists longer words now i change) kn.shown;
     earlier = (kn.earlier.0 ∙ sym (grown_long k.lists i (p ∷ [])), shown_stays words now v.earlier (risen k.lists longer words now i change) kn.earlier.1);

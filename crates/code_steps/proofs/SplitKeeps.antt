@@ -49,7 +49,7 @@ splits id v two free s k at = record {
     cut f = let a = total_snoc f (set s.views id (giver v)) (newcomer v) in let b = total_set f s.views id v (giver v) at in omega arith
 
     left : Knows k.start k.lists s.words (giver v)
-    left = record { begins = kn.begins; sizes = kn.sizes; seen = kn.seen; some = kn.some; told = kn.told; own = kn.own; shown = kn.shown; earlier = kn.earlier; place = kn.place; low = kn.low; read = kn.read; held = kn.held }
+    left = record { begins = kn.begins; sizes = kn.sizes; seen = kn.seen; some = kn.some; common = kn.common; own = kn.own; shown = kn.shown; earlier = kn.earlier; place = kn.place; low = kn.low; read = kn.read; held = kn.held }
 
     right : Knows k.start k.lists s.words (newcomer v)
     right = record {
@@ -57,7 +57,7 @@ splits id v two free s k at = record {
       sizes = (kn.sizes.0, map_long _ v.shown ∙ kn.sizes.1);
       seen = kn.seen;
       some = kn.some;
-      told = kn.told;
+      common = kn.common;
       own = tt;
       shown = λ i. subst (Each (λ n. n ≤ sequence_word s.words i)) (sym (none_shown v.shown i)) tt;
       earlier = (

@@ -58,7 +58,7 @@ owns_seen : (opening : ℕ) (lists : List (List Pair)) (words : List ℕ) (v : V
 owns_seen opening lists words v k = each_map (IsSeenStore opening lists v.seen) (IsSeenStore v.start v.seen v.seen) v.own (λ x s. record {
   place = s.place;
   seq = let a = s.seq in let b = k.begins in omega arith;
-  behind = s.behind;
+  past = s.past;
   within = s.within;
   pair = sym (starts_read (list_at lists x.at) (list_at v.seen x.at) s.place (0, 0) (k.seen x.at) s.within) ∙ s.pair;
 }) k.own
@@ -69,4 +69,4 @@ pub learns : (slots id : ℕ) (me : Me (Unit {0}) View) (i : ℕ) → 0 < me.0.p
 learns slots id me i alive free = allows slots id me i (λ n. n) (learned (step slots i 0 0 none) me) (λ words views k at.
     let v = me.0 in
     let kn = k.knows id v at alive in
-    (v, loads words (set views id v) i (quiet words views id v v k at alive refl free free refl kn), (refl, record { own = owns_seen k.start k.lists words v kn; told = kn.told; whole = λ all. is_whole words views id v k at all free }, refl)))
+    (v, loads words (set views id v) i (quiet words views id v v k at alive refl free free refl kn), (refl, record { own = owns_seen k.start k.lists words v kn; common = kn.common; whole = λ all. is_whole words views id v k at all free }, refl)))

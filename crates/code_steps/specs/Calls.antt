@@ -31,9 +31,9 @@ pub record Looked (v : View) (at : ℕ) (w : View) : Type 0 where
   pub seen : w.seen ≡ grown_at v.seen at more
   pub own : w.own ≡ v.own
 
-abbrev pub ToldByWrite : View → ℕ → Pair → Wrote → View → Type 0
-ToldByWrite v at p (Done seq) w = Stored v at seq p w
-ToldByWrite v at p _ w = Looked v at w
+abbrev pub LearnedByWrite : View → ℕ → Pair → Wrote → View → Type 0
+LearnedByWrite v at p (Done seq) w = Stored v at seq p w
+LearnedByWrite v at p _ w = Looked v at w
 
 abbrev pub shown_by_read : CodeRead → List ℕ
 shown_by_read (PairRead code entry seq) = seq ∷ seq ∷ []
@@ -45,6 +45,6 @@ HasReadCause (PairRead code entry seq) = seq % 2 ≡ 0
 HasReadCause (Again first second) = (first % 2 ≡ 1) ⊎ (second ≢ first)
 
 -- a pair ends the list that was then seen, under its sequence, so it stands before none that the seat had seen
-abbrev pub ToldByRead : View → ℕ → CodeRead → View → Type 0
-ToldByRead v at (PairRead code entry seq) w = Looked v at w × EndsWith w.start (list_at w.seen at) seq (code, entry)
-ToldByRead v at (Again first second) w = Looked v at w
+abbrev pub LearnedByRead : View → ℕ → CodeRead → View → Type 0
+LearnedByRead v at (PairRead code entry seq) w = Looked v at w × EndsWith w.start (list_at w.seen at) seq (code, entry)
+LearnedByRead v at (Again first second) w = Looked v at w

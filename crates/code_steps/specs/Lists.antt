@@ -56,7 +56,7 @@ all_stores at start (l ∷ ls) = stores_in at start l ++ all_stores (suc at) sta
 pub record IsSeenStore (start : ℕ) (lists seen : List (List Pair)) (x : Store) : Type 0 where
   pub place : ℕ
   pub seq : x.seq ≡ start + 2 * place
-  pub behind : 1 ≤ place
+  pub past : 1 ≤ place
   pub within : place < length (list_at seen x.at)
   pub pair : slice_index_or (list_at lists x.at) place (0, 0) ≡ (x.code, x.entry)
 

@@ -41,7 +41,7 @@ pub record Knows (opening : ℕ) (lists : List (List Pair)) (words : List ℕ) (
   pub sizes : (length v.seen ≡ length lists) × (length v.shown ≡ length lists)
   pub seen : (i : ℕ) → StartsWith (list_at lists i) (list_at v.seen i)
   pub some : (i : ℕ) → i < length lists → 1 ≤ length (list_at v.seen i)
-  pub told : (i : ℕ) → StartsWith (list_at v.seen i) (list_at v.told i)
+  pub common : (i : ℕ) → StartsWith (list_at v.seen i) (list_at v.common i)
   pub own : Each (IsSeenStore opening lists v.seen) v.own
   pub shown : (i : ℕ) → Each (λ n. n ≤ sequence_word words i) (list_at v.shown i)
   pub earlier : (length v.earlier ≡ length lists) × ((i : ℕ) → Each (λ n. n ≤ sequence_word words i) (list_at v.earlier i))

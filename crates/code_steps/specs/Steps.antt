@@ -36,7 +36,7 @@ loaded_entry s m found n = (n.0 ≡ record m.0 { entry = found }) × (n.1 ≡ m.
 -- what holds of each view
 pub record Learned (v : View) : Type 0 where
   pub own : OwnsSeen v
-  pub told : (i : ℕ) → StartsWith (list_at v.seen i) (list_at v.told i)
+  pub common : (i : ℕ) → StartsWith (list_at v.seen i) (list_at v.common i)
   pub whole : v.parts ≡ 16 → IsWhole v
 
 abbrev pub learned : Step (Unit {0}) → Me (Unit {0}) View → ℕ → Me (Unit {0}) View → Type 0

@@ -18,7 +18,7 @@ opening_view start pairs = record {
   own = [];
   shown = map (λ _. []) pairs;
   earlier = map (λ _. []) pairs;
-  told = [];
+  common = [];
   at = 0;
   first = start;
   code = (slice_index_or pairs 0 (0, 0)).0;
@@ -49,7 +49,7 @@ both v u = record v {
   own = v.own ++ u.own;
   shown = of_both in_turn v.shown u.shown;
   earlier = of_both in_turn v.earlier u.earlier;
-  told = of_both shorter v.seen u.seen;
+  common = of_both shorter v.seen u.seen;
 }
 
 -- every sequence that was shown of an entry: to the seats that this one was split from, before it was, and to this one
@@ -58,7 +58,7 @@ known_at v i = list_at v.earlier i ++ list_at v.shown i
 
 -- what a join leaves
 abbrev pub spent : View
-spent = record { parts = 0; start = 0; seen = []; own = []; shown = []; earlier = []; told = []; at = 0; first = 0; code = 0; entry = 0; holds = false }
+spent = record { parts = 0; start = 0; seen = []; own = []; shown = []; earlier = []; common = []; at = 0; first = 0; code = 0; entry = 0; holds = false }
 
 -- each own store is that of a pair that the seat has seen
 abbrev pub OwnsSeen : View → Type 0

@@ -4,7 +4,7 @@ ghost use Rattle.code_steps.specs.Seats.{view, IsOf};
 ghost use Rattle.code_steps.specs.Lists.{grown_at};
 ghost use Rattle.code_steps.specs.Steps.{SameSeat};
 ghost use Rattle.code_steps.specs.Views.{known_at};
-ghost use Rattle.code_steps.specs.Calls.{RiseFrom, shown_by_write, HasWriteCause, ToldByWrite, shown_by_read, HasReadCause, ToldByRead};
+ghost use Rattle.code_steps.specs.Calls.{RiseFrom, shown_by_write, HasWriteCause, LearnedByWrite, shown_by_read, HasReadCause, LearnedByRead};
 
 use crate::seat::CodeSeat;
 use crate::table::CodeTable;
@@ -43,7 +43,7 @@ pub fn write(table: &CodeTable, s: &mut CodeSeat, at: u32, code: u64, entry: u64
     ensures shown { (view s.new).shown ≡ grown_at (view s.old).shown at (shown_by_write result) }
     ensures rises { RiseFrom (known_at (view s.old) at) (shown_by_write result) }
     ensures cause { HasWriteCause result }
-    ensures told { ToldByWrite (view s.old) at (code, entry) result (view s.new) }
+    ensures learned { LearnedByWrite (view s.old) at (code, entry) result (view s.new) }
 {
     let expected = s.load_sequence(table, at);
     if expected % 2 == 1 {
@@ -76,7 +76,7 @@ pub fn read(table: &CodeTable, s: &mut CodeSeat, at: u32) -> CodeRead
     ensures shown { (view s.new).shown ≡ grown_at (view s.old).shown at (shown_by_read result) }
     ensures rises { RiseFrom (known_at (view s.old) at) (shown_by_read result) }
     ensures cause { HasReadCause result }
-    ensures told { ToldByRead (view s.old) at result (view s.new) }
+    ensures learned { LearnedByRead (view s.old) at result (view s.new) }
 {
     let first = s.load_sequence(table, at);
     let code = s.load_code(table, at);

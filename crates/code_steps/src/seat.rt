@@ -66,7 +66,7 @@ impl CodeSeat {
         requires caller { IsOf table.now self.old }
         requires at { at < length (view self.old).seen }
         ensures caller { IsOf table.now self.new }
-        ensures told { LoadedSequence (view self.old) at result (view self.new) }
+        ensures learned { LoadedSequence (view self.old) at result (view self.new) }
     {
         table
             .table
@@ -79,7 +79,7 @@ impl CodeSeat {
         requires caller { IsOf table.now self.old }
         requires at { (at < length (view self.old).seen) × ((view self.old).at ≡ at) }
         ensures caller { IsOf table.now self.new }
-        ensures told { view self.new ≡ record (view self.old) { code = result } }
+        ensures learned { view self.new ≡ record (view self.old) { code = result } }
     {
         table
             .table
@@ -92,7 +92,7 @@ impl CodeSeat {
         requires caller { IsOf table.now self.old }
         requires at { (at < length (view self.old).seen) × ((view self.old).at ≡ at) }
         ensures caller { IsOf table.now self.new }
-        ensures told { view self.new ≡ record (view self.old) { entry = result } }
+        ensures learned { view self.new ≡ record (view self.old) { entry = result } }
     {
         table
             .table
@@ -107,7 +107,7 @@ impl CodeSeat {
         requires at { (at < length (view self.old).seen) × ((view self.old).at ≡ at) }
         requires even { (expected % 2 ≡ 0) × ((view self.old).first ≡ expected) }
         ensures seat { IsAt table.now self.new }
-        ensures told { Claimed (view self.old) at expected result (view self.new) }
+        ensures learned { Claimed (view self.old) at expected result (view self.new) }
     {
         table
             .table
@@ -120,7 +120,7 @@ impl CodeSeat {
         requires seat { IsAt table.now self.old }
         requires holds { ((view self.old).at ≡ at) × ((view self.old).holds ≡ true) }
         ensures seat { IsAt table.now self.new }
-        ensures told { view self.new ≡ record (view self.old) { code = code } }
+        ensures learned { view self.new ≡ record (view self.old) { code = code } }
     {
         table
             .table
@@ -133,7 +133,7 @@ impl CodeSeat {
         requires seat { IsAt table.now self.old }
         requires holds { ((view self.old).at ≡ at) × ((view self.old).holds ≡ true) }
         ensures seat { IsAt table.now self.new }
-        ensures told { view self.new ≡ record (view self.old) { entry = entry } }
+        ensures learned { view self.new ≡ record (view self.old) { entry = entry } }
     {
         table
             .table
@@ -147,7 +147,7 @@ impl CodeSeat {
         requires holds { ((view self.old).at ≡ at) × ((view self.old).holds ≡ true) }
         requires seq { seq ≡ (view self.old).first + 1 }
         ensures caller { IsOf table.now self.new }
-        ensures told { Released (view self.old) at seq (view self.new) }
+        ensures learned { Released (view self.old) at seq (view self.new) }
     {
         table
             .table

@@ -24,7 +24,7 @@ pub struct View {
     /// from, and joined with later.
     pub earlier: LinkedList<LinkedList<u64>>,
     /// For each entry, the shorter one of the two lists that were put together last.
-    pub told: LinkedList<LinkedList<(u64, u64)>>,
+    pub common: LinkedList<LinkedList<(u64, u64)>>,
     /// The entry at which it stepped last, the sequence that it found or stored there, and the two
     /// numbers that stood there then.
     pub at: u32,

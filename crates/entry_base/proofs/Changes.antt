@@ -13,7 +13,7 @@ use Rattle.plain_table.specs.Table.{Table, Sizes, limit_in}
 use Rattle.plain_table.specs.Words.{entry_place, freelist_place, header_place, no_access_word, words_in_all}
 use Rattle.plain_table.proofs.SpacesShown.{cell-below}
 use Rattle.plain_table.proofs.WordPlaces.{entry_place-below, entry_place-from}
-use Rattle.table_laws.specs.Steady.{IsBeside}
+use Rattle.table_laws.specs.Steady.{IsDuringPhase}
 use Rattle.table_laws.proofs.Steadiness.{events-steady}
 use Rattle.word_laws.specs.CoverLaws.{HasSameReferences, IsClear}
 use Rattle.word_laws.proofs.NearWords.{IsNear-set}
@@ -53,7 +53,7 @@ pub record LowChanges (z : Sizes) (log : List Event) (e : Event) (shown words : 
   pub tells : Each (IsKnown z (log ++ e ∷ []) (next s e) (set shown place n) (set words place n)) more
 
 module _ (key : Opening) (words : List ℕ) (views : List View) (id : ℕ) (v w : View) (k : Kept key words views) (at : get_elem? views id ≡ some v)
-    (more : List Fact) (e : Event) (by : e.by ≡ v.number) (own : HasNumber v v.number) (beside : IsBeside e.act)
+    (more : List Fact) (e : Event) (by : e.by ≡ v.number) (own : HasNumber v v.number) (during : IsDuringPhase e.act)
     (takes : (p : Space) → takes_of p e.act e.said ≡ 0) (seen : w.seen ≡ k.log ++ e ∷ []) (numbers : w.numbers ≡ v.numbers)
     (facts : w.facts ≡ more ++ v.facts) (hands : w.hands ≡ v.hands) where
   abbrev z : Sizes
@@ -76,12 +76,12 @@ module _ (key : Opening) (words : List ℕ) (views : List View) (id : ℕ) (v w 
     add : (s : Table) → Given key k.log k.shown words v s → Adds z k.log e k.shown (set k.shown place n) (set words place n) w more s
     add s g =
         let h = step s g in
-        let steady = events-steady s e g.sound h.legal beside in
+        let steady = events-steady s e g.sound h.legal during in
         let same : HasSameReferences s (next s e) = λ o m. elim (steady.references o m) [ inl t ↦ t | inr t ↦ absurd (unlinked o m t.0 t.1) ] in
         record {
           legal = h.legal;
           shows = h.shows;
-          covered = covered_event s e k.shown (set k.shown place n) g.sound beside
+          covered = covered_event s e k.shown (set k.shown place n) g.sound during
               (λ o made. get_or-set_other k.shown place (header_place o) n 0 (apart o (subst (λ (x : Sizes). o < x.objects) g.sizes made)))
               (λ o m low. references_same s (next s e) (set k.shown place n) same o m) g.covered;
           steady = entry_steady z k.log (k.log ++ e ∷ []) s (next s e) k.shown p i n below h.used h.marked
@@ -95,7 +95,7 @@ module _ (key : Opening) (words : List ℕ) (views : List View) (id : ℕ) (v w 
         (IsNear-set z words k.shown place n k.near)
         (linked_entry z words place n (let a = entry_place-below z p i below in let b = wide in let c = k.near.whole in omega arith) usable)
         (same_hands (set k.shown place n) (grey_low z k.shown place n (λ o made. apart o made)))
-        e by own beside seen add
+        e by own during seen add
 
   module _ (place n : ℕ) (low : place < 32 + 8 * z.objects) (no_header : (o : ℕ) → header_place o ≢ place) (no_list : (p : Space) → freelist_place p ≢ place)
       (step : (s : Table) → Given key k.log k.shown words v s → LowChanges z k.log e k.shown words place n w more s) where
@@ -104,7 +104,7 @@ module _ (key : Opening) (words : List ℕ) (views : List View) (id : ℕ) (v w 
         let h = step s g in record {
           legal = h.legal;
           shows = h.shows;
-          covered = covered_event s e k.shown (set k.shown place n) g.sound beside
+          covered = covered_event s e k.shown (set k.shown place n) g.sound during
               (λ o made. get_or-set_other k.shown place (header_place o) n 0 (no_header o)) (λ o m below. h.refs o m) g.covered;
           steady = low_steady z k.log (k.log ++ e ∷ []) s (next s e) k.shown place n low no_header no_list (λ o m below. h.refs o m) (λ q. takes_same q k.log e (takes q));
           owns = h.owns;
@@ -115,4 +115,4 @@ module _ (key : Opening) (words : List ℕ) (views : List View) (id : ℕ) (v w 
     kept_low = adds key words (set words place n) views id v w k at (set k.shown place n) more numbers facts
         (IsNear-set z words k.shown place n k.near) (linked_low z words place n low)
         (same_hands (set k.shown place n) (grey_low z k.shown place n (λ o made. no_header o)))
-        e by own beside seen add_low
+        e by own during seen add_low

@@ -14,7 +14,7 @@ use Rattle.entry_base.specs.Ranks.{takes_in, Rises}
 use Rattle.word_laws.specs.CoverLaws.{IsClear, HasSameReferences}
 use Rattle.word_laws.proofs.CoverSteps.{IsStep-next}
 use Rattle.word_laws.proofs.CoveredWords.{CoveredWordsStay-step}
-use Rattle.table_laws.specs.Steady.{IsBeside}
+use Rattle.table_laws.specs.Steady.{IsDuringPhase}
 use Rattle.plain_table.specs.History.{next}
 use Rattle.plain_table.specs.Shows.{IsCovered}
 use Rattle.plain_table.specs.Sound.{IsSound}
@@ -40,12 +40,12 @@ references_same s t later same o k = go t.cycle
     go (Some c) = inl (same o k)
 
 -- the marking invariant after an event of a phase that changes no header
-pub covered_event : (s : Table) (e : Event) (shown later : List ℕ) → IsSound s → IsBeside e.act →
+pub covered_event : (s : Table) (e : Event) (shown later : List ℕ) → IsSound s → IsDuringPhase e.act →
     ((o : ℕ) → o < s.sizes.objects → slice_index later (header_place o) ≡ slice_index shown (header_place o)) →
     ((o k : ℕ) → o < s.sizes.objects → IfSome (next s e).cycle (λ d. ((next s e).refs o k ≡ s.refs o k) ⊎ IsClear later ((next s e).refs o k))) →
     IsCovered shown s → IsCovered later (next s e)
-covered_event s e shown later sound beside heads refs was =
-    CoveredWordsStay-step shown later s (next s e) (IsStep-next s e sound (λ policy is. subst IsBeside is beside)) heads
+covered_event s e shown later sound during heads refs was =
+    CoveredWordsStay-step shown later s (next s e) (IsStep-next s e sound (λ policy is. subst IsDuringPhase is during)) heads
     (all_refs (next s e).cycle refs) was
   where
     all_refs : (cycle : Option Cycle) →

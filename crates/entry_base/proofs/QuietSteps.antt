@@ -8,7 +8,7 @@ use Rattle.plain_table.specs.declared.events.Space.{Space}
 use Rattle.plain_table.specs.declared.events.Spot.TheVariants.{Ref}
 use Rattle.plain_table.specs.Table.{Table}
 use Rattle.plain_table.specs.History.{IsLegal, next}
-use Rattle.table_laws.specs.Steady.{IsBeside}
+use Rattle.table_laws.specs.Steady.{IsDuringPhase}
 use Rattle.word_laws.specs.WordLaws.{WritesNothing}
 use Rattle.table_laws.proofs.Steadiness.{events-steady}
 use Rattle.word_laws.proofs.QuietWords.{WordsStay-all}
@@ -45,7 +45,7 @@ module _ (key : Opening) (words : List ℕ) (views : List View) (id : ℕ) (v : 
       })
 
   -- and one with an event that writes no word
-  module _ (e : Event) (w : View) (by : e.by ≡ v.number) (own : HasNumber v v.number) (beside : IsBeside e.act) (nothing : WritesNothing e.act e.said)
+  module _ (e : Event) (w : View) (by : e.by ≡ v.number) (own : HasNumber v v.number) (during : IsDuringPhase e.act) (nothing : WritesNothing e.act e.said)
       (takes : (p : Space) → takes_of p e.act e.said ≡ 0) (seen : w.seen ≡ k.log ++ e ∷ []) (numbers : w.numbers ≡ v.numbers)
       (facts : w.facts ≡ more ++ v.facts) (hands : w.hands ≡ v.hands) where
     no_link : (o n : ℕ) (var : Option ℕ) → e.act ≡ Link (Ref o n) var → ⊥
@@ -54,17 +54,17 @@ module _ (key : Opening) (words : List ℕ) (views : List View) (id : ℕ) (v : 
     pub kept_event : ((s : Table) → Given key k.log k.shown words v s → IsLegal s e × Owns (next s e) w × Each (IsKnown (sizes_in key) (k.log ++ e ∷ []) (next s e) k.shown words) more)
         → Kept key words (set views id w) × (v.opening ≡ key → Extends v e w)
     kept_event step = adds key words words views id v w k at k.shown more numbers facts k.near (λ p i below usable. usable)
-        (λ o. ap (λ (h : List ℕ). count_in o h + grey (sizes_in key) k.shown o) hands) e by own beside seen add
+        (λ o. ap (λ (h : List ℕ). count_in o h + grey (sizes_in key) k.shown o) hands) e by own during seen add
       where
         add : (s : Table) → Given key k.log k.shown words v s → Adds (sizes_in key) k.log e k.shown k.shown words w more s
         add s g =
             let is = step s g in
-            let steady = events-steady s e g.sound is.0 beside in
+            let steady = events-steady s e g.sound is.0 during in
             let same : HasSameReferences s (next s e) = λ o n. elim (steady.references o n) [ inl t ↦ t | inr t ↦ absurd (no_link o n t.0 t.1) ] in
             record {
               legal = is.0;
               shows = WordsStay-all k.shown s e g.shows is.0 nothing;
-              covered = covered_event s e k.shown k.shown g.sound beside (λ o low. refl) (λ o n low. references_same s (next s e) k.shown same o n) g.covered;
+              covered = covered_event s e k.shown k.shown g.sound during (λ o low. refl) (λ o n low. references_same s (next s e) k.shown same o n) g.covered;
               steady = still (sizes_in key) k.log (k.log ++ e ∷ []) s (next s e) k.shown same (λ p. takes_same p k.log e (takes p));
               owns = is.1;
               tells = is.2;

@@ -14,7 +14,7 @@ use Rattle.plain_table.specs.declared.reports.Reply.TheVariants as reply
 use Rattle.plain_table.specs.Table.{Table, Sizes}
 use Rattle.plain_table.specs.History.{IsLegal, IsLegalHistory, next, after}
 use Rattle.plain_table.specs.Sound.{IsSound}
-use Rattle.table_laws.specs.Steady.{IsBeside, IsSteady, CyclesSteady}
+use Rattle.table_laws.specs.Steady.{IsDuringPhase, IsSteady, CyclesSteady}
 use Rattle.plain_table.specs.Words.{phase_word}
 use Rattle.plain_table.specs.Cycle.{Cycle, start_in}
 use Rattle.plain_table.specs.Shows.{Shows, IsCovered}
@@ -237,7 +237,7 @@ module _ (key : Opening) (words now : List ℕ) (views : List View) (id : ℕ) (
       },
     )
 
-  module _ (e : Event) (by : e.by ≡ v.number) (own : HasNumber v v.number) (beside : IsBeside e.act) (seen : w.seen ≡ k.log ++ e ∷ [])
+  module _ (e : Event) (by : e.by ≡ v.number) (own : HasNumber v v.number) (during : IsDuringPhase e.act) (seen : w.seen ≡ k.log ++ e ∷ [])
       (step : (s : Table) → Given key k.log k.shown words v s → Adds (sizes_in key) k.log e k.shown later now w more s) where
     state_added : (s : Table) → StateKept key k.log k.shown words views s → Adds (sizes_in key) k.log e k.shown later now w more s
         → StateKept key (k.log ++ e ∷ []) later now (set views id w) (next s e)
@@ -256,7 +256,7 @@ module _ (key : Opening) (words now : List ℕ) (views : List View) (id : ℕ) (
     }
       where
         steady : IsSteady s e (next s e)
-        steady = events-steady s e st.sound add.legal beside
+        steady = events-steady s e st.sound add.legal during
 
         stay : (f : Fact) → IsKnown (sizes_in key) k.log s k.shown words f → IsKnown (sizes_in key) (k.log ++ e ∷ []) (next s e) later now f
         stay = fact_stays (sizes_in key) k.log (k.log ++ e ∷ []) s e (next s e) k.shown later words now steady add.steady ahead
@@ -270,7 +270,7 @@ module _ (key : Opening) (words now : List ℕ) (views : List View) (id : ℕ) (
     }
 
     events_after : Each IsPhaseEvent (k.log ++ e ∷ [])
-    events_after = each_append IsPhaseEvent k.log (e ∷ []) k.numbers.events ((subst (λ n. n ≤ 12) (sym by) (low own), beside), tt)
+    events_after = each_append IsPhaseEvent k.log (e ∷ []) k.numbers.events ((subst (λ n. n ≤ 12) (sym by) (low own), during), tt)
 
     pub adds : Kept key now (set views id w) × (v.opening ≡ key → Extends v e w)
     adds = (

@@ -4,7 +4,7 @@ use Rattle.std.specs.Prelude.{◌≡◌, ℕ, ◌<◌, ◌≤◌, List, ◌++◌
 use mathlib.Core.Option.{some}
 use lib.ListN.{get_elem?}
 use Rattle.plain_table.specs.declared.events.Event.{Event}
-use Rattle.table_laws.specs.Steady.{IsBeside}
+use Rattle.table_laws.specs.Steady.{IsDuringPhase}
 use Rattle.entry_base.specs.declared.view.View.{View}
 use Rattle.entry_base.specs.Lists.{Each, total, count_in}
 
@@ -18,7 +18,7 @@ IsQuiet v es = Each (λ e. count_in e.by v.numbers ≡ 0) es
 
 -- an event of a phase: by a number up to 12, and neither the start nor the finish of a cycle
 abbrev pub IsPhaseEvent : Event → Type 0
-IsPhaseEvent e = (e.by ≤ 12) × IsBeside e.act
+IsPhaseEvent e = (e.by ≤ 12) × IsDuringPhase e.act
 
 -- where a view stands in the history: what it has seen, and then the rest
 pub record Stands (log : List Event) (v : View) : Type 0 where

@@ -23,7 +23,7 @@ use Rattle.plain_table.specs.Words.{cell_word, entry_place}
 use Rattle.plain_table.proofs.Options.{IsSomeAnd-by}
 use Rattle.plain_table.proofs.PlaceReads.{put_entry-same}
 use Rattle.plain_table.proofs.SpacesShown.{cell-used}
-use Rattle.table_laws.specs.Steady.{IsBeside}
+use Rattle.table_laws.specs.Steady.{IsDuringPhase}
 use Rattle.table_laws.proofs.CellsStay.{marked_in-here}
 use Rattle.table_laws.proofs.Steadiness.{events-steady}
 use Rattle.word_laws.specs.ReadLaws.{value_bits}
@@ -93,7 +93,7 @@ module _ (key : Opening) (words : List ℕ) (views : List View) (id : ℕ) (v : 
         ∙ ap (option_map (λ (c : Cell). record c { value = value })) there.stands
 
   -- a store and an exchange: either leaves the table with the value
-  module _ (a : Act) (said : Reply) (in_phase : IsBeside a) (takes : (p : Space) → takes_of p a said ≡ 0) (unlinked : (o m : ℕ) (var : Option ℕ) → a ≢ act.Link (Ref o m) var)
+  module _ (a : Act) (said : Reply) (in_phase : IsDuringPhase a) (takes : (p : Space) → takes_of p a said ≡ 0) (unlinked : (o m : ℕ) (var : Option ℕ) → a ≢ act.Link (Ref o m) var)
       (writes : WritesCell a External i) (left : (s : Table) → next s (event_of v a said) ≡ with_value s i value)
       (legal : (s : Table) → Given key k.log k.shown words v s → IsLegal s (event_of v a said)) where
     abbrev e : Event

@@ -27,9 +27,9 @@ Took-nil (Some bytes) = ap (λ all. Some all) (sym (append-nil bytes))
 -- what was taken first and what was taken then
 pub Took-then : (old mid new : Option (List ℕ)) (first then : List ℕ) → Took old first mid → Took mid then new →
     Took old (first ++ then) new
-Took-then None mid new first then took later = later ∙ ap (λ told. append_known told then) took
+Took-then None mid new first then took later = later ∙ ap (λ known. append_known known then) took
 Took-then (Some before) mid new first then took later =
-    later ∙ ap (λ told. append_known told then) took ∙ ap (λ bytes. Some bytes) (append_assoc before first then)
+    later ∙ ap (λ known. append_known known then) took ∙ ap (λ bytes. Some bytes) (append_assoc before first then)
 
 -- the first n bytes of `&bytes[done..]` stand after the first `done`
 pub front-more : (bytes : List ℕ) (done n : ℕ) →

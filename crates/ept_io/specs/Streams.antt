@@ -10,9 +10,9 @@ pub record Stream : Type 0 where
 
 -- what is told of a reader or a writer that told `first` at the start and tells `now`: nothing where it told nothing at
 -- the start, since std's contracts let it tell its bytes later
-abbrev pub told_since : Option (List ℕ) → Option (List ℕ) → Option (List ℕ)
-told_since None now = None
-told_since (Some bytes) now = now
+abbrev pub known_since : Option (List ℕ) → Option (List ℕ) → Option (List ℕ)
+known_since None now = None
+known_since (Some bytes) now = now
 
 -- what told its bytes at the start tells them now
 abbrev pub tells_on : Option (List ℕ) → Option (List ℕ) → Bool

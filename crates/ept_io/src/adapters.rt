@@ -28,12 +28,12 @@ pub struct ReadSource<R: Read> {
 
 impl<R: Read> Model for ReadSource<R> {
     ghost use Rattle.std.specs.Prelude.{◌≡◌, true};
-    ghost use Rattle.ept_io.specs.Streams.{Stream, tells_on, told_since};
+    ghost use Rattle.ept_io.specs.Streams.{Stream, tells_on, known_since};
 
     ghost Value = { Stream };
 
     ghost view = { λ s. record {
-      bytes = told_since (R.remaining s.first.value) (R.remaining s.inner);
+      bytes = known_since (R.remaining s.first.value) (R.remaining s.inner);
       faults = s.faults.count;
     } };
 
@@ -110,12 +110,12 @@ pub struct WriteSink<W: Write> {
 
 impl<W: Write> Model for WriteSink<W> {
     ghost use Rattle.std.specs.Prelude.{◌≡◌, true};
-    ghost use Rattle.ept_io.specs.Streams.{Stream, tells_on, told_since};
+    ghost use Rattle.ept_io.specs.Streams.{Stream, tells_on, known_since};
 
     ghost Value = { Stream };
 
     ghost view = { λ s. record {
-      bytes = told_since (W.contents s.first.value) (W.contents s.inner);
+      bytes = known_since (W.contents s.first.value) (W.contents s.inner);
       faults = s.faults.count;
     } };
 

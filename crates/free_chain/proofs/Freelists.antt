@@ -53,9 +53,9 @@ count_below-over set from i to low high is =
     let past : i + 1 + (to - (i + 1)) ≡ to = omega (arith, high) in
     let before : count_below set from ≤ count_below set i =
     subst (λ (k : ℕ). count_below set from ≤ count_below set k) upto (count_below-grows set from (i - from)) in
-    let behind : count_below set (i + 1) ≤ count_below set to =
+    let grown : count_below set (i + 1) ≤ count_below set to =
     subst (λ (k : ℕ). count_below set (i + 1) ≤ count_below set k) past (count_below-grows set (i + 1) (to - (i + 1))) in
-    omega (arith, here, before, behind, count_below-step set i)
+    omega (arith, here, before, grown, count_below-step set i)
 
 -- the chain from the first free index at or above `start` on
 record IsWalk (used : ℕ → Bool) (committed : ℕ) (entry : ℕ → ℕ) (start head len : ℕ) : Type 0 where

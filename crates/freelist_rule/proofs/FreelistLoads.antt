@@ -22,7 +22,7 @@ use Rattle.plain_table.specs.Words.{freelist_place, entry_place, free_word, next
 use Rattle.plain_table.proofs.FreeReads.{next_free-le}
 use Rattle.free_chain.specs.Rank.{rank}
 use Rattle.table_laws.specs.Laws.{IsFree}
-use Rattle.table_laws.specs.Steady.{IsBeside}
+use Rattle.table_laws.specs.Steady.{IsDuringPhase}
 use Rattle.table_laws.proofs.TakesFind.{takes-least}
 use Rattle.word_laws.specs.Small.{AreSmall}
 use Rattle.word_laws.specs.WordLaws.{WritesNothing}
@@ -69,7 +69,7 @@ module _ (key : Opening) (words : List ℕ) (views : List View) (id : ℕ) (v : 
       (done.0, record { loaded = loaded k.log [] refl; looks = done.1 caller.opened })
 
   -- one with an event that leaves each table as it is and takes no index
-  module _ (a : Act) (said : Reply) (more : List Fact) (phase : IsBeside a) (nothing : WritesNothing a said) (takes : (q : Space) → takes_of q a said ≡ 0) where
+  module _ (a : Act) (said : Reply) (more : List Fact) (phase : IsDuringPhase a) (nothing : WritesNothing a said) (takes : (q : Space) → takes_of q a said ≡ 0) where
     abbrev e : Event
     e = event_of v a said
 

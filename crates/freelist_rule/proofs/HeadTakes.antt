@@ -122,14 +122,14 @@ module _ (key : Opening) (words : List ℕ) (views : List View) (id : ℕ) (v : 
 
     add : Adds z k.log e k.shown later (set words place new) won (fact.Used p head ∷ []) s
     add =
-        let steady = events-steady s e g.sound legal is.beside in
+        let steady = events-steady s e g.sound legal is.during in
         let same : HasSameReferences s (next s e) = λ o n. elim (steady.references o n) [ inl t ↦ t | inr t ↦ absurd (subst (λ x. TakesFrom x p) t.1 is.from) ] in
         let whole : length k.shown ≡ words_in_all z = g.shows.whole ∙ ap words_in_all g.sizes in
         let more = takes_more p k.log e is.one in
         record {
           legal = legal;
           shows = FreelistWordsFollow-row k.shown s e p head link len (g.sound.used.first p) g.shows few legal is.from refl (ap (λ w. w / 2 ^ 32) shown_word ∙ long) link_there;
-          covered = covered_event s e k.shown later g.sound is.beside
+          covered = covered_event s e k.shown later g.sound is.during
               (λ o below. get_or-set_other k.shown place (header_place o) new 0 (λ at_list. omega (arith, at_list, freelist_place-below p)))
               (λ o n below. references_same s (next s e) later same o n) g.covered;
           steady = list_steady z k.log (k.log ++ e ∷ []) s (next s e) k.shown p new whole same
@@ -165,7 +165,7 @@ module _ (key : Opening) (words : List ℕ) (views : List View) (id : ℕ) (v : 
       let done = adds key words (set words place new) views id v won k at later (fact.Used p head ∷ []) refl refl
       (IsNear-set z words k.shown place new k.near) (linked_low z words place new (omega (arith, below)))
       (λ q. ap (λ x. count_in q v.hands + x) (sym (grey_low z k.shown place new (λ o made at_list. omega (arith, at_list, below)) q)))
-      e refl caller.own is.beside refl (add here) in (
+      e refl caller.own is.during refl (add here) in (
         won,
         done.0,
         record {

@@ -12,7 +12,7 @@ use Rattle.plain_table.specs.Cycle.{start_in}
 use Rattle.plain_table.specs.History.{IsLegal, next}
 use Rattle.plain_table.specs.Rows.{only_below, with_taken}
 use Rattle.plain_table.specs.Table.{Table, least_free}
-use Rattle.table_laws.specs.Steady.{IsBeside}
+use Rattle.table_laws.specs.Steady.{IsDuringPhase}
 use Rattle.word_laws.specs.WordLaws.{TakesFrom}
 use Rattle.entry_base.specs.declared.view.Opening.{Opening}
 use Rattle.entry_base.specs.declared.view.View.{View}
@@ -22,7 +22,7 @@ use Rattle.entry_base.specs.Ranks.{takes_of}
 
 -- an act that takes an index of a space, where that is the least free one: a take, or a take below the start
 pub record TakesIndex (key : Opening) (v : View) (p : Space) (a : Act) (i : ℕ) : Type 0 where
-  pub beside : IsBeside a
+  pub during : IsDuringPhase a
   pub from : TakesFrom a p
   pub one : takes_of p a (reply.Index i) ≡ 1
   pub none : (q : Space) → (p ≡ q → ⊥) → takes_of q a (reply.Index i) ≡ 0
@@ -31,7 +31,7 @@ pub record TakesIndex (key : Opening) (v : View) (p : Space) (a : Act) (i : ℕ)
 
 pub takes_first : (key : Opening) (v : View) (p : Space) (i : ℕ) → TakesIndex key v p (act.Take p) i
 takes_first key v p i = record {
-  beside = tt;
+  during = tt;
   from = refl;
   one = one p;
   none = none p;
@@ -50,7 +50,7 @@ takes_first key v p i = record {
 
 pub takes_first_below : (key : Opening) (v : View) (start i : ℕ) → start_of key ≡ Some start → i < start → TakesIndex key v External (act.Below start) i
 takes_first_below key v start i area below = record {
-  beside = tt;
+  during = tt;
   from = refl;
   one = refl;
   none = none;

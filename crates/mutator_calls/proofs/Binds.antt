@@ -11,7 +11,7 @@ use Rattle.plain_table.specs.Index.{index_of}
 use Rattle.plain_table.specs.Places.{object_of, space_of}
 use Rattle.plain_table.specs.Table.{Table}
 use Rattle.plain_table.specs.Words.{field_place}
-use Rattle.plain_table.specs.Rows.{tickets_behind}
+use Rattle.plain_table.specs.Rows.{tickets_after}
 use Rattle.plain_table.specs.Shapes.{event}
 use Rattle.plain_table.specs.Shows.{Image}
 use Rattle.mutator_calls.specs.Calls.{Sees}
@@ -34,7 +34,7 @@ module _ (image : Image) (s : Table) (h : Sees image s) (f : Field) (w : ℕ) (m
         let ok = is ∙ ap (λ (b : Bool). if b then reply.Ok else reply.Taken (s.words f)) (eq-eqb (s.words f) 0 none.1) in
         subst (λ (ws : List ℕ). FollowsTo (record image { words = ws }) s (event 0 (Bind f w) said) s.ticket) (sym words)
         (subst (λ (r : Reply). FollowsTo (record image { words = slice_set image.words (field_place f) w }) s (event 0 (Bind f w) r) s.ticket) (sym ok)
-        (FollowsTo-bound image s h f w may none.1 (ap (λ p. tickets_behind s 0 p (index_of w)) external)))
+        (FollowsTo-bound image s h f w may none.1 (ap (λ p. tickets_after s 0 p (index_of w)) external)))
     | inr some ↦
         let test = ne_eqb (slice_index image.words (field_place f)) 0 (λ e. some.1 (sym field-shown ∙ e)) in
         let words = ap (λ (b : Bool). if b then slice_set image.words (field_place f) w else image.words) test in

@@ -18,7 +18,7 @@ use Rattle.plain_table.specs.Words.{area_place, field_place}
 use Rattle.plain_table.specs.Rows.{Holds, IsTag, MayFill, free_below, with_cell, with_taken}
 use Rattle.plain_table.specs.History.{IsLegalHistory, after}
 use Rattle.plain_table.specs.Shapes.{Held, IsInit, OwnTicket, abort_before, event, external_field, held_after, own_after, with_ticket}
-use Rattle.plain_table.specs.Sweeps.{linked_behind}
+use Rattle.plain_table.specs.Sweeps.{linked_after}
 use Rattle.plain_table.specs.Shows.{Image}
 use Rattle.word_laws.specs.Small.{AreSmall}
 use Rattle.word_laws.proofs.AreaReads.{AreaWordsTell-shown}
@@ -31,7 +31,7 @@ use Rattle.mutator_calls.proofs.Aborts.{IfSome-aborted, IfSome-outside, IsLegal-
 use Rattle.mutator_calls.proofs.Binds.{FollowsTo-bind}
 use Rattle.mutator_calls.proofs.Fields.{Holds-variable, WithObject-some, object_of-external_field}
 use Rattle.mutator_calls.proofs.Fills.{KeepsHeaders-fills, index-within}
-use Rattle.mutator_calls.proofs.Kept.{AreBeside}
+use Rattle.mutator_calls.proofs.Kept.{AreDuringPhase}
 use Rattle.mutator_calls.proofs.Puts.{IsLegal-put, Sees-put, fresh-put, put_claim-same}
 use Rattle.mutator_calls.proofs.Takes.{IsLegal-take, Sees-take, with_taken-parts}
 use Rattle.mutator_calls.proofs.Written.{HandsOver-parts, KeepsHeaders, with_parts}
@@ -124,22 +124,22 @@ module _ (number i tag value : ℕ) (is_tag : IsTag tag) (few : value < 2 ^ 48) 
   -- these events are the mutator's own, and change neither what it holds nor its ticket nor what was linked
   record IsOwn (es : List Event) : Type 0 where
     own : AllByRecursion (λ (e : Event). e.by ≡ 0) es
-    beside : AreBeside es
+    during : AreDuringPhase es
     held : (held : Held) → held_after held es ≡ held
     ticket : (ticket : OwnTicket) → own_after ticket es ≡ ticket
-    linked : (s : Table) (linked : List ℕ) → linked_behind s linked es ≡ linked
+    linked : (s : Table) (linked : List ℕ) → linked_after s linked es ≡ linked
 
   IsOwn-init : (test : Bool) → IsOwn (event 0 (Take External) (reply.Index i) ∷ (if test then event 0 Abort reply.Ok ∷ [] else []) ++ filling number i tag value said)
   IsOwn-init true = record {
     own = (refl, (refl, (refl, (refl, tt))));
-    beside = (tt, (tt, (tt, (tt, tt))));
+    during = (tt, (tt, (tt, (tt, tt))));
     held = λ held. refl;
     ticket = λ ticket. refl;
     linked = λ s linked. refl;
   }
   IsOwn-init false = record {
     own = (refl, (refl, (refl, tt)));
-    beside = (tt, (tt, (tt, tt)));
+    during = (tt, (tt, (tt, tt)));
     held = λ held. refl;
     ticket = λ ticket. refl;
     linked = λ s linked. refl;
@@ -196,7 +196,7 @@ module _ (m : Mutator) (small : AreSmall (sizes_of m.image.shape)) (s : Table) (
         sees = leads.sees;
         handed = λ linked was.
             subst (λ xs. HandsOver (with_parts m words m.image.pending) xs (after s es)) (sym (quiet.linked s linked))
-            (HandsOver-parts m words m.image.pending keeps linked s es h leads.legal quiet.beside was);
+            (HandsOver-parts m words m.image.pending keeps linked s es h leads.legal quiet.during was);
       }
 
   pub Makes-init : s.words (external_field o f) ≡ slice_index m.image.words.items (field_place (external_field o f)) →

@@ -15,10 +15,10 @@ use Rattle.plain_table.specs.Cycle.{Cycle}
 use Rattle.plain_table.specs.Table.{Table}
 use Rattle.plain_table.specs.Words.{count_place, header_place, phase_place}
 use Rattle.plain_table.specs.History.{IsLegalHistory, after, next}
-use Rattle.plain_table.specs.Sweeps.{linked_behind, linked_next}
+use Rattle.plain_table.specs.Sweeps.{linked_after, linked_next}
 use Rattle.plain_table.specs.Sound.{IsSound}
 use Rattle.plain_table.specs.Shows.{IsLawful, IsScanned, IsShaded}
-use Rattle.table_laws.specs.Steady.{CycleSteady, CyclesSteady, IsBeside}
+use Rattle.table_laws.specs.Steady.{CycleSteady, CyclesSteady, IsDuringPhase}
 use Rattle.table_laws.proofs.Soundness.{events-sound}
 use Rattle.table_laws.proofs.Steadiness.{events-steady}
 use Rattle.entry_word.specs.Image.{IsValidShape, image_of}
@@ -102,35 +102,35 @@ HasSameStart-trans (Some a) None c one two = absurd one
 HasSameStart-trans (Some a) (Some b) None one two = absurd two
 
 -- events that neither start nor finish a cycle
-abbrev pub AreBeside : List Event → Type 0
-AreBeside es = AllByRecursion (λ (e : Event). IsBeside e.act) es
+abbrev pub AreDuringPhase : List Event → Type 0
+AreDuringPhase es = AllByRecursion (λ (e : Event). IsDuringPhase e.act) es
 
 pub sound-after : (es : List Event) (s : Table) → IsSound s → IsLegalHistory s es → IsSound (after s es)
 sound-after [] s h legal = h
 sound-after (e ∷ es) s h legal = sound-after es (next s e) (events-sound s e h legal.0) legal.1
 
-pub same_start-after : (es : List Event) (s : Table) → IsSound s → IsLegalHistory s es → AreBeside es → HasSameStart s.cycle (after s es).cycle
-same_start-after [] s h legal beside = HasSameStart-refl s.cycle
+pub same_start-after : (es : List Event) (s : Table) → IsSound s → IsLegalHistory s es → AreDuringPhase es → HasSameStart s.cycle (after s es).cycle
+same_start-after [] s h legal during = HasSameStart-refl s.cycle
   where
     HasSameStart-refl : (a : Option Cycle) → HasSameStart a a
     HasSameStart-refl None = tt
     HasSameStart-refl (Some c) = (refl, refl, refl)
-same_start-after (e ∷ es) s h legal beside =
+same_start-after (e ∷ es) s h legal during =
     HasSameStart-trans s.cycle (next s e).cycle (after (next s e) es).cycle
-    (HasSameStart-steady s.cycle (next s e).cycle (events-steady s e h legal.0 beside.0).cycle)
-    (same_start-after es (next s e) (events-sound s e h legal.0) legal.1 beside.1)
+    (HasSameStart-steady s.cycle (next s e).cycle (events-steady s e h legal.0 during.0).cycle)
+    (same_start-after es (next s e) (events-sound s e h legal.0) legal.1 during.1)
 
-pub count-after : (es : List Event) (s : Table) → IsSound s → IsLegalHistory s es → AreBeside es → s.count ≤ (after s es).count
-count-after [] s h legal beside = omega arith
-count-after (e ∷ es) s h legal beside =
-    let here = (events-steady s e h legal.0 beside.0).count in
-    let later = count-after es (next s e) (events-sound s e h legal.0) legal.1 beside.1 in
+pub count-after : (es : List Event) (s : Table) → IsSound s → IsLegalHistory s es → AreDuringPhase es → s.count ≤ (after s es).count
+count-after [] s h legal during = omega arith
+count-after (e ∷ es) s h legal during =
+    let here = (events-steady s e h legal.0 during.0).count in
+    let later = count-after es (next s e) (events-sound s e h legal.0) legal.1 during.1 in
     omega (arith, here, later)
 
-pub sizes-after : (es : List Event) (s : Table) → IsSound s → IsLegalHistory s es → AreBeside es → (after s es).sizes ≡ s.sizes
-sizes-after [] s h legal beside = refl
-sizes-after (e ∷ es) s h legal beside =
-    sizes-after es (next s e) (events-sound s e h legal.0) legal.1 beside.1 ∙ (events-steady s e h legal.0 beside.0).sizes
+pub sizes-after : (es : List Event) (s : Table) → IsSound s → IsLegalHistory s es → AreDuringPhase es → (after s es).sizes ≡ s.sizes
+sizes-after [] s h legal during = refl
+sizes-after (e ∷ es) s h legal during =
+    sizes-after es (next s e) (events-sound s e h legal.0) legal.1 during.1 ∙ (events-steady s e h legal.0 during.0).sizes
 
 -- a root of the start is an object that is made
 pub root-below : (s : Table) (c : Cycle) → IsSound s → s.cycle ≡ Some c → (o : ℕ) → IsRoot c.globals c.vars o → o < s.count
@@ -139,9 +139,9 @@ root-below s c h is o (inr (b, v, there)) = (CycleSound-is s c h is).traced.made
 
 -- what is handed over stays so: each object that was shaded is shaded, and no object is listed or linked besides
 pub HandsOver-after : (old new : Mutator) → IsKept old new → (linked : List ℕ) (s : Table) (es : List Event) → IsSound s →
-    s.sizes.objects ≡ old.image.shape.objects → IsLegalHistory s es → AreBeside es → HandsOver old linked s → HandsOver new linked (after s es)
-HandsOver-after old new kept linked s es h objects legal beside handed =
-    by s.cycle (after s es).cycle (same_start-after es s h legal beside) handed refl
+    s.sizes.objects ≡ old.image.shape.objects → IsLegalHistory s es → AreDuringPhase es → HandsOver old linked s → HandsOver new linked (after s es)
+HandsOver-after old new kept linked s es h objects legal during handed =
+    by s.cycle (after s es).cycle (same_start-after es s h legal during) handed refl
   where
     by : (a b : Option Cycle) → HasSameStart a b → IfSome a (AreHanded old.image.words.items (owed_of old) linked s.count) → s.cycle ≡ a →
         IfSome b (AreHanded new.image.words.items (owed_of new) linked (after s es).count)
@@ -157,5 +157,5 @@ HandsOver-after old new kept linked s es h objects legal beside handed =
           IsShaded-kept old new kept o (omega (arith, root-below s c h is o before, h.objects.few, objects)) (was.roots o before);
       links = λ o there.
           let before = was.links o there in
-          (omega (arith, before.0, count-after es s h legal beside), IsShaded-kept old new kept o (omega (arith, before.0, h.objects.few, objects)) before.1);
+          (omega (arith, before.0, count-after es s h legal during), IsShaded-kept old new kept o (omega (arith, before.0, h.objects.few, objects)) before.1);
     }

@@ -21,7 +21,7 @@ use Rattle.plain_table.specs.Shows.{IsCovered, IsCoveredIn, Shows}
 use Rattle.plain_table.proofs.Options.{IfSome-is, IsSome-some, IsSome-value}
 use Rattle.plain_table.proofs.PlaceReads.{read_pair}
 use Rattle.plain_table.proofs.WordPlaces.{header-apart-reference}
-use Rattle.table_laws.specs.Steady.{IsBeside}
+use Rattle.table_laws.specs.Steady.{IsDuringPhase}
 use Rattle.word_laws.specs.CoverLaws.{IsClear}
 use Rattle.word_laws.proofs.CoverSteps.{IsStep-next}
 use Rattle.word_laws.proofs.CoveredWords.{CoveredWordsStay-step}
@@ -236,7 +236,7 @@ module _ (old mid : Mutator) (word : ℕ) (w : IsShadedIn old mid word) (ready :
 
       covered-link : IsCovered later (next s linking)
       covered-link =
-          CoveredWordsStay-step mid.image.words.items later s (next s linking) (IsStep-next s linking h.sound (λ policy e. subst IsBeside e tt))
+          CoveredWordsStay-step mid.image.words.items later s (next s linking) (IsStep-next s linking h.sound (λ policy e. subst IsDuringPhase e tt))
           (λ o less. later-header o) (each s.cycle at.clear) at.sees.covered
         where
           each : (cycle : Option Cycle) → IfSome cycle (λ c. IsClear mid.image.words.items x) →

@@ -19,7 +19,7 @@ use Rattle.plain_table.specs.Sound.{IsSound}
 use Rattle.plain_table.specs.Shows.{Image}
 use Rattle.plain_table.proofs.Options.{IsSome-some, IsSomeAnd-by, is_some-option_map}
 use Rattle.plain_table.proofs.WordPlaces.{entry_place-below, entry_place-from}
-use Rattle.table_laws.specs.Steady.{IsBeside}
+use Rattle.table_laws.specs.Steady.{IsDuringPhase}
 use Rattle.word_laws.specs.Kinds.{is_marked_word}
 use Rattle.word_laws.specs.WordLaws.{WritesCell}
 use Rattle.word_laws.proofs.CellWords.{CellWordsFollow-row}
@@ -57,11 +57,11 @@ entry_place-within m s h p i cell stands =
 
 module _ (image : Image) (s : Table) (h : Sees image s) where
   -- after an event that writes the word of the cell at an index, and changes no reference, variable or ticket
-  pub Sees-cell : (e : Event) → IsLegal s e → IsBeside e.act → (p : Space) (i : ℕ) (cell : Cell) → WritesCell e.act p i → (next s e).cells p i ≡ Some cell →
+  pub Sees-cell : (e : Event) → IsLegal s e → IsDuringPhase e.act → (p : Space) (i : ℕ) (cell : Cell) → WritesCell e.act p i → (next s e).cells p i ≡ Some cell →
       (next s e).refs ≡ s.refs → (next s e).vars ≡ s.vars → (next s e).ticket ≡ s.ticket →
       Sees (record image { words = slice_set image.words (entry_place s.sizes p i) (cell_word cell true) }) (next s e)
-  Sees-cell e legal beside p i cell writes stands =
-      Sees-words image s e h legal beside (slice_set image.words (entry_place s.sizes p i) (cell_word cell true))
+  Sees-cell e legal during p i cell writes stands =
+      Sees-words image s e h legal during (slice_set image.words (entry_place s.sizes p i) (cell_word cell true))
       (CellWordsFollow-row image.words s e p i cell h.sound.used h.shows.words legal writes stands)
       (λ o few. get_or-set_other image.words (entry_place s.sizes p i) (header_place o) (cell_word cell true) 0
       (λ same. absurd (omega (arith, same, few, entry_place-from s.sizes p i))))

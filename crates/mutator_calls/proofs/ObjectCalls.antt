@@ -21,7 +21,7 @@ use Rattle.plain_table.specs.History.{IsLegal, next}
 use Rattle.plain_table.specs.Shapes.{Held, IsShape, event, held_next, with_ticket}
 use Rattle.plain_table.specs.Shows.{IsCovered, IsHeader, IsLawful, IsScanned, IsShaded, Shows, is_black}
 use Rattle.plain_table.proofs.PlaceReads.{read_pair}
-use Rattle.table_laws.specs.Steady.{IsBeside}
+use Rattle.table_laws.specs.Steady.{IsDuringPhase}
 use Rattle.word_laws.specs.WordLaws.{WritesNothing}
 use Rattle.word_laws.proofs.CountWords.{CountWordsFollow-row}
 use Rattle.word_laws.proofs.CoveredWords.{header_word-half}
@@ -72,16 +72,16 @@ module _ (old new : Mutator) (written held : List ℕ) (w : Rewrites old new wri
     phase = ap (λ ws. slice_index ws phase_place) w.words ∙ phase;
   }
 
-  module _ (s : Table) (h : Sees (image_of old.image) s) (e : Event) (legal : IsLegal s e) (beside : IsBeside e.act) where
+  module _ (s : Table) (h : Sees (image_of old.image) s) (e : Event) (legal : IsLegal s e) (during : IsDuringPhase e.act) where
     pub Sees-rewritten : Shows written (next s e) → IsCovered written (next s e) → HasVariables held (next s e).vars → (next s e).ticket ≡ s.ticket →
         Sees (image_of new.image) (next s e)
     Sees-rewritten shows covered variables ticket =
-        Sees-next (image_of old.image) s e h legal beside (image_of new.image) (ap sizes_of w.shape)
+        Sees-next (image_of old.image) s e h legal during (image_of new.image) (ap sizes_of w.shape)
         (subst (λ ws. Shows ws (next s e)) (sym w.words) shows)
         (subst (λ ws. IsCovered ws (next s e)) (sym w.words) covered)
         (subst (λ vs. HasVariables vs (next s e).vars) (sym w.variables) variables)
         (subst (λ ps. HasPending (map (option_map pending_of) ps.items) (next s e) (next s e).ticket) (sym w.pending)
-        (subst (HasPending (image_of old.image).pending (next s e)) (sym ticket) (HasPending-next (image_of old.image) s e h legal beside s.ticket h.shows.pending)))
+        (subst (HasPending (image_of old.image).pending (next s e)) (sym ticket) (HasPending-next (image_of old.image) s e h legal during s.ticket h.shows.pending)))
 
 -- one word is written, and it is no header and not the phase
 module _ (old new : Mutator) (place word : ℕ) (held : List ℕ) (w : Rewrites old new (slice_set old.image.words.items place word) held)
@@ -108,18 +108,18 @@ module _ (old new : Mutator) (var word : ℕ) (w : Rewrites old new old.image.wo
 
 module _ (old new : Mutator) (var : ℕ) (small : var < 16) (s : Table) (h : Sees (image_of old.image) s) (x : Option ℕ)
     (w : Rewrites old new old.image.words.items (slice_set old.image.vars.items var (object_word x))) where
-  Sees-held : (e : Event) (legal : IsLegal s e) (beside : IsBeside e.act) → WritesNothing e.act e.said → (next s e).vars ≡ put_pair s.vars 0 var x →
+  Sees-held : (e : Event) (legal : IsLegal s e) (during : IsDuringPhase e.act) → WritesNothing e.act e.said → (next s e).vars ≡ put_pair s.vars 0 var x →
       (next s e).refs ≡ s.refs → (next s e).ticket ≡ s.ticket → Sees (image_of new.image) (next s e)
-  Sees-held e legal beside quiet vars refs ticket =
-      Sees-rewritten old new old.image.words.items (slice_set old.image.vars.items var (object_word x)) w s h e legal beside
+  Sees-held e legal during quiet vars refs ticket =
+      Sees-rewritten old new old.image.words.items (slice_set old.image.vars.items var (object_word x)) w s h e legal during
       (WordsStay-all old.image.words.items s e h.shows.words legal quiet)
-      (IsCovered-next (image_of old.image) s e h legal beside old.image.words.items (λ o few. refl) (λ o k. ap (λ (rs : ℕ → ℕ → Option ℕ). rs o k) refs))
+      (IsCovered-next (image_of old.image) s e h legal during old.image.words.items (λ o few. refl) (λ o k. ap (λ (rs : ℕ → ℕ → Option ℕ). rs o k) refs))
       (subst (HasVariables (slice_set old.image.vars.items var (object_word x))) (sym vars) (HasVariables-put old.image.vars.items s.vars var x small h.shows.variables))
       ticket
 
-  handed-held : (linked : List ℕ) (e : Event) → IsLegal s e → IsBeside e.act → HandsOver old linked s → HandsOver new linked (next s e)
-  handed-held linked e legal beside =
-      HandsOver-after old new (IsKept-held old new var (object_word x) w) linked s (e ∷ []) h.sound (ap (λ z. z.objects) h.shows.sizes) (legal, tt) (beside, tt)
+  handed-held : (linked : List ℕ) (e : Event) → IsLegal s e → IsDuringPhase e.act → HandsOver old linked s → HandsOver new linked (next s e)
+  handed-held linked e legal during =
+      HandsOver-after old new (IsKept-held old new var (object_word x) w) linked s (e ∷ []) h.sound (ap (λ z. z.objects) h.shows.sizes) (legal, tt) (during, tt)
 
 pub Makes-drop : (old new : Mutator) (var : ℕ) → var < 16 → (s : Table) → Sees (image_of old.image) s →
     Rewrites old new old.image.words.items (slice_set old.image.vars.items var 0) → Makes old new s (op.Drop var) reply.Ok

@@ -15,7 +15,7 @@ use Rattle.plain_table.specs.History.{IsLegal, next}
 use Rattle.plain_table.specs.Sound.{IsSound}
 use Rattle.plain_table.specs.Shows.{Image, ImageShows, IsCovered, IsPending, IsShaded, PendingCell, Shows}
 use Rattle.plain_table.proofs.Options.{IsSomeAnd-is, IsSomeAnd-by, IsSome-value, IsSomeAnd-some}
-use Rattle.table_laws.specs.Steady.{IsBeside, IsSteady}
+use Rattle.table_laws.specs.Steady.{IsDuringPhase, IsSteady}
 use Rattle.table_laws.proofs.Soundness.{events-sound}
 use Rattle.table_laws.proofs.Steadiness.{events-steady}
 use Rattle.word_laws.proofs.CoverSteps.{IsStep-next}
@@ -32,15 +32,15 @@ HasVariables variables vars = (length variables ≡ 128) × ((b v : ℕ) → b <
 abbrev pub HasPending : List (Option PendingCell) → Table → (ℕ → Option ℕ) → Type 0
 HasPending pending s ticket = (length pending ≡ 8) × ((b : ℕ) (d : Option PendingCell) → b < 8 → IsPending s (ticket b) (slice_index_or pending b d))
 
-not-start : (a : Act) → IsBeside a → (policy : Policy) → a ≡ Start policy → ⊥
-not-start a beside policy is = subst IsBeside is beside
+not-start : (a : Act) → IsDuringPhase a → (policy : Policy) → a ≡ Start policy → ⊥
+not-start a during policy is = subst IsDuringPhase is during
 
-module _ (image : Image) (s : Table) (e : Event) (h : Sees image s) (legal : IsLegal s e) (beside : IsBeside e.act) where
+module _ (image : Image) (s : Table) (e : Event) (h : Sees image s) (legal : IsLegal s e) (during : IsDuringPhase e.act) where
   pub sound-next : IsSound (next s e)
   sound-next = events-sound s e h.sound legal
 
   pub steady-next : IsSteady s e (next s e)
-  steady-next = events-steady s e h.sound legal beside
+  steady-next = events-steady s e h.sound legal during
 
   -- a pending cell has its index, tag and value after the event
   IsPending-next : (found : Option ℕ) (p : Option PendingCell) → IsPending s found p → IsPending (next s e) found p
@@ -63,7 +63,7 @@ module _ (image : Image) (s : Table) (e : Event) (h : Sees image s) (legal : IsL
       ((o : ℕ) → o < s.sizes.objects → slice_index later (header_place o) ≡ slice_index image.words (header_place o)) →
       ((o k : ℕ) → (next s e).refs o k ≡ s.refs o k) → IsCovered later (next s e)
   IsCovered-next later headers refs =
-      CoveredWordsStay-step image.words later s (next s e) (IsStep-next s e h.sound (not-start e.act beside)) headers (each (next s e).cycle) h.covered
+      CoveredWordsStay-step image.words later s (next s e) (IsStep-next s e h.sound (not-start e.act during)) headers (each (next s e).cycle) h.covered
     where
       each : (cycle : Option Cycle) → IfSome cycle (λ d. (o k : ℕ) → o < s.sizes.objects → ((next s e).refs o k ≡ s.refs o k) ⊎ IfSome ((next s e).refs o k) (IsShaded later))
       each None = tt

@@ -46,18 +46,18 @@ module _ (sizes : Sizes) (p : Space) (small : AreSmall sizes) (words : List ℕ)
   -- the head of a list that is not empty
   pub head-within : slice_index words (freelist_place p) / 2 ^ 32 ≢ 0 → slice_index words (freelist_place p) % 2 ^ 32 < limit_in sizes p
   head-within some =
-      let told = head-tells.1 in
-      let below = (told.some some).1 in
-      let within = told.within in
+      let known = head-tells.1 in
+      let below = (known.some some).1 in
+      let within = known.within in
       omega (arith, below, within, limit-is)
 
   -- the segment at the end of an empty list that is not at the limit
   pub segment-room : slice_index words (freelist_place p) / 2 ^ 32 ≡ 0 → slice_index words (freelist_place p) % 2 ^ 32 < limit_in sizes p →
       slice_index words (freelist_place p) % 2 ^ 32 + sizes.seg ≤ limit_in sizes p
   segment-room none below =
-      let told = head-tells.1 in
-      let end = told.end none in
-      let room = told.room (omega (arith, end, below, limit-is)) in
+      let known = head-tells.1 in
+      let end = known.end none in
+      let room = known.room (omega (arith, end, below, limit-is)) in
       let seg : s.sizes.seg ≡ sizes.seg = ap (λ (z : Sizes). z.seg) shown.same in
       omega (arith, room, seg, end, limit-is)
 
@@ -75,12 +75,12 @@ module _ (sizes : Sizes) (p : Space) (small : AreSmall sizes) (words : List ℕ)
       let head = slice_index words (freelist_place p) % 2 ^ 32 in
       let len = slice_index words (freelist_place p) / 2 ^ 32 in
       let entry : ℕ → ℕ = λ i. slice_index words (entry_place s.sizes p i) in
-      let told = head-tells.1 in
-      let found = told.some some in
+      let known = head-tells.1 in
+      let found = known.some some in
       let free = least_free-some s p head found.0 in
       let next = next_free (s.used p) (head + 1) head-tells.0 in
-      let is = told.links head (omega (arith, free.1)) found.1 free.0 in
-      let few : next < 2 ^ 32 = let le = next_free-le (s.used p) (head + 1) head-tells.0 in let within = told.within in omega (arith, le, within, limit-few) in
+      let is = known.links head (omega (arith, free.1)) found.1 free.0 in
+      let few : next < 2 ^ 32 = let le = next_free-le (s.used p) (head + 1) head-tells.0 in let within = known.within in omega (arith, le, within, limit-few) in
       let link : link_of (entry head) ≡ next = ap link_of is ∙ omega (arith, few) in
       let linked : entry head ≡ free_word (link_of (entry head)) = is ∙ ap free_word (sym link) in
       let follows = FreelistWordsFollow-row words s (event 0 (Take p) (reply.Index head)) p head (link_of (entry head)) (len - 1) (shown.sound.used.first p) shown.shows limit-few

@@ -11,7 +11,7 @@ use Rattle.plain_table.specs.declared.reports.Reply.TheVariants as reply
 use Rattle.plain_table.specs.Index.{index_of}
 use Rattle.plain_table.specs.Places.{object_of, put_at, space_of}
 use Rattle.plain_table.specs.Table.{Table}
-use Rattle.plain_table.specs.Rows.{Holds, IsFreshBind, IsSharedBind, tickets_behind, with_bound, with_unbound}
+use Rattle.plain_table.specs.Rows.{Holds, IsFreshBind, IsSharedBind, tickets_after, with_bound, with_unbound}
 use Rattle.plain_table.specs.Words.{field_place, header_place}
 use Rattle.plain_table.specs.History.{IsLegal, next}
 use Rattle.plain_table.specs.Shapes.{event}
@@ -78,7 +78,7 @@ module _ (image : Image) (s : Table) (h : Sees image s) (f : Field) (w : ℕ) (m
     headers : (o : ℕ) → o < s.sizes.objects → slice_index (slice_set image.words (field_place f) w) (header_place o) ≡ slice_index image.words (header_place o)
     headers o few = get_or-set_other image.words (field_place f) (header_place o) w 0 (header-apart-field o f)
 
-    pub FollowsTo-bound : tickets_behind s 0 (space_of f) (index_of w) ≡ s.ticket →
+    pub FollowsTo-bound : tickets_after s 0 (space_of f) (index_of w) ≡ s.ticket →
         FollowsTo (record image { words = slice_set image.words (field_place f) w }) s bound s.ticket
     FollowsTo-bound stays =
         let ticket = ap (λ (t : Table). t.ticket) next-bound ∙ stays in
@@ -91,7 +91,7 @@ module _ (image : Image) (s : Table) (h : Sees image s) (f : Field) (w : ℕ) (m
         }
 
     -- the index that the word names becomes the ticket
-    pub FollowsTo-ticket : (i : ℕ) (cell : Cell) → s.cells Trusted i ≡ Some cell → tickets_behind s 0 (space_of f) (index_of w) ≡ put_at s.ticket 0 (Some i) →
+    pub FollowsTo-ticket : (i : ℕ) (cell : Cell) → s.cells Trusted i ≡ Some cell → tickets_after s 0 (space_of f) (index_of w) ≡ put_at s.ticket 0 (Some i) →
         (now : Image) → now.sizes ≡ image.sizes → now.variables ≡ image.variables → now.words ≡ slice_set image.words (field_place f) w →
         now.pending ≡ slice_set image.pending 0 (Some (record { index = i; tag = cell.tag; value = cell.value })) →
         FollowsTo now s bound (put_at s.ticket 0 (Some i))

@@ -18,7 +18,7 @@ use Rattle.plain_table.specs.Index.{index_of, word_of}
 use Rattle.plain_table.specs.Places.{put_at}
 use Rattle.plain_table.specs.Table.{Table, Sizes, least_free}
 use Rattle.plain_table.specs.Words.{field_place}
-use Rattle.plain_table.specs.Rows.{IsTag, tickets_behind, with_cell, with_taken}
+use Rattle.plain_table.specs.Rows.{IsTag, tickets_after, with_cell, with_taken}
 use Rattle.plain_table.specs.History.{IsLegalHistory, after}
 use Rattle.plain_table.specs.Shapes.{IsShape, IsTNew, event, own_bound, ticket_said, with_ticket}
 use Rattle.plain_table.proofs.PlaceReads.{put_entry-same}
@@ -184,7 +184,7 @@ module _ (m : Mutator) (s : Table) (h : Sees (image_of m.image) s) (var o : ℕ)
           Makes m (with_parts m words pending) s (op.TNew var tag value) reply.Ok
       Makes-tnew_ok words pending is waits empty =
           let x : Pending = record { index = i; tag = tag; value = value } in
-          let becomes : tickets_behind two 0 Trusted (index_of (word_of i)) ≡ put_at s.ticket 0 (Some i) =
+          let becomes : tickets_after two 0 Trusted (index_of (word_of i)) ≡ put_at s.ticket 0 (Some i) =
           ap (λ (test : Bool). if test then put_at s.ticket 0 (Some (index_of (word_of i))) else s.ticket) fresh
           ∙ ap (λ j. put_at s.ticket 0 (Some j)) (index_of-word_of i) in
           Makes-filled words pending reply.Ok (put_at s.ticket 0 (Some i))

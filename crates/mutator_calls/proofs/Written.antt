@@ -13,7 +13,7 @@ use Rattle.entry_word.specs.declared.image.Pending.{Pending}
 use Rattle.entry_word.specs.Image.{image_of}
 use Rattle.mutator_calls.specs.declared.heap.Mutator.{Mutator}
 use Rattle.mutator_calls.specs.Calls.{HandsOver, IsReady, MakesEach, Sees}
-use Rattle.mutator_calls.proofs.Kept.{AreBeside, HandsOver-after, IsKept, IsLawful-made, IsReady-kept}
+use Rattle.mutator_calls.proofs.Kept.{AreDuringPhase, HandsOver-after, IsKept, IsLawful-made, IsReady-kept}
 
 abbrev pub with_words : Mutator → Vec ℕ → Mutator
 with_words m words = record m { image = record m.image { words = words } }
@@ -78,7 +78,7 @@ module _ (m : Mutator) (words : Vec ℕ) (pending : Vec (Option Pending)) (keeps
       IsReady-kept m (with_parts m words pending) IsKept-parts keeps.count (count-few m ready) ready
       (IsLawful-made m (with_parts m words pending) call said ready makes)
 
-  pub HandsOver-parts : (linked : List ℕ) (s : Table) (es : List Event) → Sees (image_of m.image) s → IsLegalHistory s es → AreBeside es →
+  pub HandsOver-parts : (linked : List ℕ) (s : Table) (es : List Event) → Sees (image_of m.image) s → IsLegalHistory s es → AreDuringPhase es →
       HandsOver m linked s → HandsOver (with_parts m words pending) linked (after s es)
-  HandsOver-parts linked s es h legal beside =
-      HandsOver-after m (with_parts m words pending) IsKept-parts linked s es h.sound (ap (λ (z : Sizes). z.objects) h.shows.sizes) legal beside
+  HandsOver-parts linked s es h legal during =
+      HandsOver-after m (with_parts m words pending) IsKept-parts linked s es h.sound (ap (λ (z : Sizes). z.objects) h.shows.sizes) legal during

@@ -11,7 +11,7 @@ use Rattle.plain_table.specs.Table.{Table}
 use Rattle.plain_table.specs.Words.{phase_place}
 use Rattle.plain_table.specs.History.{IsLegalHistory, after}
 use Rattle.plain_table.specs.Shapes.{IsShape, held_after, own_after, with_ticket}
-use Rattle.plain_table.specs.Sweeps.{linked_behind}
+use Rattle.plain_table.specs.Sweeps.{linked_after}
 use Rattle.plain_table.specs.Sound.{IsSound}
 use Rattle.plain_table.specs.Shows.{Image, ImageShows, IsCovered, IsLawful, IsShaded}
 use Rattle.entry_word.specs.Image.{IsValidShape, image_of}
@@ -57,7 +57,7 @@ pub record Makes (old new : Mutator) (s : Table) (call : Op) (said : Reply) : Ty
   pub held : held_after (s.vars 0) events ≡ (after s events).vars 0
   pub ticket : own_after (with_ticket (s.ticket 0)) events ≡ with_ticket ((after s events).ticket 0)
   pub sees : Sees (image_of new.image) (after s events)
-  pub handed : (linked : List ℕ) → HandsOver old linked s → HandsOver new (linked_behind s linked events) (after s events)
+  pub handed : (linked : List ℕ) → HandsOver old linked s → HandsOver new (linked_after s linked events) (after s events)
 
 -- the same at each table that the image showed
 abbrev pub MakesEach : Mutator → Mutator → Op → Reply → Type 0

@@ -36,10 +36,10 @@ no_claim : (b : ℕ) (p : Space) (i : ℕ) → by_space (has_pair [] b) (has_pai
 no_claim b External i = refl
 no_claim b Trusted i = refl
 
-words_behind : (k : Kept) (c : Cycle) (made : KeptSwept) → IsSwept (shown k) c made → (f : Field) →
+words_past : (k : Kept) (c : Cycle) (made : KeptSwept) → IsSwept (shown k) c made → (f : Field) →
     by_field (word_at made.external_words) (word_at k.trusted_words) f ≡ rewritten c (shown k).words f
-words_behind k c made h (field.External number) = h.words number
-words_behind k c made h (field.Trusted number) = refl
+words_past k c made h (field.External number) = h.words number
+words_past k c made h (field.Trusted number) = refl
 
 shown-swept_kept : (k : Kept) (c : Cycle) (made : KeptSwept) → IsSwept (shown k) c made → shown (swept_kept k made) ≡ finished (shown k) c
 shown-swept_kept k c made h = λ j. record (finished (shown k) c) {
@@ -47,12 +47,12 @@ shown-swept_kept k c made h = λ j. record (finished (shown k) c) {
   used = λ p i. h.used p i j;
   owed = λ b p i. no_claim b p i j;
   fresh = λ b p i. no_claim b p i j;
-  words = λ f. words_behind k c made h f j;
+  words = λ f. words_past k c made h f j;
   ticket = λ b. h.tickets b j;
 }
 
 pub finishes : (old new : Kept) (k : KeptCycle) (made : KeptSwept) → old.cycle ≡ Some k → IsSwept (shown old) (shown_cycle k) made →
     new ≡ swept_kept old made → shown new ≡ finished_in (shown old) (shown old).cycle
-finishes old new k made is h behind =
-    ap shown behind ∙ shown-swept_kept old (shown_cycle k) made h
+finishes old new k made is h past =
+    ap shown past ∙ shown-swept_kept old (shown_cycle k) made h
     ∙ sym (ap (λ (cycle : Option KeptCycle). finished_in (shown old) (option_map shown_cycle cycle)) is)

@@ -24,9 +24,9 @@ module _ (s : Table) (c : Cycle) (reached : List ℕ) (f : Field) (id o : ℕ) (
   pub IsEntryKept-unreached : found ≡ false → IsEntryKept s c reached f id
   IsEntryKept-unreached none is = let e : has reached o ≡ true = subst (λ (object : ℕ). has reached object ≡ true) (sym same) is in absurd (cc)
 
-  pub IsFieldKept-fails : found ≡ true → s.bound f ≡ Some id → (told : Bool) → IsTrue told ↔ IsOwnKept s c f id → told ≡ false →
+  pub IsFieldKept-fails : found ≡ true → s.bound f ≡ Some id → (done : Bool) → IsTrue done ↔ IsOwnKept s c f id → done ≡ false →
       IsFieldKept s c reached f → ⊥
-  IsFieldKept-fails some bound told own none kept =
+  IsFieldKept-fails some bound done own none kept =
       let e : has reached (object_of f) ≡ true = subst (λ (object : ℕ). has reached object ≡ true) same (sym says ∙ some) in
       iff_false own none (kept id bound e)
 
@@ -35,11 +35,11 @@ fields-by : (P : Field → Type 0) → ((n : ℕ) → P (field.External n)) → 
 fields-by P external trusted (field.External n) = external n
 fields-by P external trusted (field.Trusted n) = trusted n
 
-module _ (P : Field → Type 0) (told : Bool) where
-  pub fields-then : ((n : ℕ) → P (field.External n)) → IsTrue told ↔ ((n : ℕ) → P (field.Trusted n)) → IsTrue told ↔ ((f : Field) → P f)
+module _ (P : Field → Type 0) (done : Bool) where
+  pub fields-then : ((n : ℕ) → P (field.External n)) → IsTrue done ↔ ((n : ℕ) → P (field.Trusted n)) → IsTrue done ↔ ((f : Field) → P f)
   fields-then external says = (λ h. fields-by P external (says.0 h), λ all. says.1 (λ n. all (field.Trusted n)))
 
-  pub fields-else : told ≡ false → IsTrue told ↔ ((n : ℕ) → P (field.External n)) → IsTrue told ↔ ((f : Field) → P f)
+  pub fields-else : done ≡ false → IsTrue done ↔ ((n : ℕ) → P (field.External n)) → IsTrue done ↔ ((f : Field) → P f)
   fields-else none says = (λ h. absurd (cc), λ all. says.1 (λ n. all (field.External n)))
 
 -- whether a cycle may finish, by what was reached
@@ -47,8 +47,8 @@ module _ (s : Table) (c : Cycle) (reached : List ℕ) (reaches : (o : ℕ) → I
   abbrev AreScanned : Type 0
   AreScanned = (o : ℕ) → IsTrue (has reached o) → IsTrue (c.scans o || c.born o)
 
-  pub finishes-then : AreScanned → (told : Bool) → IsTrue told ↔ ((f : Field) → IsFieldKept s c reached f) → IsTrue told ↔ CanFinish s c
-  finishes-then scanned told says = (
+  pub finishes-then : AreScanned → (done : Bool) → IsTrue done ↔ ((f : Field) → IsFieldKept s c reached f) → IsTrue done ↔ CanFinish s c
+  finishes-then scanned done says = (
     λ h. record {
       scanned = λ o r. scanned o ((reaches o).1 r);
       kept = λ f id bound r. says.0 h f id bound ((reaches (object_of f)).1 r);
@@ -56,9 +56,9 @@ module _ (s : Table) (c : Cycle) (reached : List ℕ) (reaches : (o : ℕ) → I
     λ finish. says.1 (λ f id bound r. finish.kept f id bound ((reaches (object_of f)).0 r)),
   )
 
-  pub finishes-else : (told : Bool) → told ≡ false → (AreScanned → ⊥) → IsTrue told ↔ CanFinish s c
-  finishes-else told none never = (λ h. absurd (cc), λ finish. absurd (never (λ o r. finish.scanned o ((reaches o).0 r))))
+  pub finishes-else : (done : Bool) → done ≡ false → (AreScanned → ⊥) → IsTrue done ↔ CanFinish s c
+  finishes-else done none never = (λ h. absurd (cc), λ finish. absurd (never (λ o r. finish.scanned o ((reaches o).0 r))))
 
 -- the same of the cycle that is under way
-pub finishes-in : (s : Table) (c : Cycle) (cycle : Option Cycle) (told : Bool) → cycle ≡ Some c → IsTrue told ↔ CanFinish s c → IsTrue told ↔ IsSomeAnd cycle (CanFinish s)
-finishes-in s c cycle told is says = subst (λ (found : Option Cycle). IsTrue told ↔ IsSomeAnd found (CanFinish s)) (sym is) says
+pub finishes-in : (s : Table) (c : Cycle) (cycle : Option Cycle) (done : Bool) → cycle ≡ Some c → IsTrue done ↔ CanFinish s c → IsTrue done ↔ IsSomeAnd cycle (CanFinish s)
+finishes-in s c cycle done is says = subst (λ (found : Option Cycle). IsTrue done ↔ IsSomeAnd found (CanFinish s)) (sym is) says

@@ -16,7 +16,7 @@ use Rattle.plain_table.specs.Index.{index_of}
 use Rattle.plain_table.specs.Cycle.{start_in, marked_in, touched_in}
 use Rattle.plain_table.specs.Table.{Table, least_free}
 use Rattle.plain_table.specs.Finish.{id_at}
-use Rattle.plain_table.specs.Rows.{row, HasCell, is_asked, value_at, free_below, tickets_behind, with_taken, with_bound, with_unbound, with_value}
+use Rattle.plain_table.specs.Rows.{row, HasCell, is_asked, value_at, free_below, tickets_after, with_taken, with_bound, with_unbound, with_value}
 use Rattle.plain_table.specs.History.{IsLegal, next}
 use Rattle.plain_table.specs.declared.events.Event.{Event}
 use Rattle.plain_table.specs.Shapes.{event}
@@ -85,9 +85,9 @@ pub makes_unbound : (old new : Kept) (b : ℕ) (f : Field) (word found : ℕ) (p
 makes_unbound old new b f word found p i said allowed held full is space index unbound s =
     let holds : (shown old).words f ≢ 0 = λ none. full (held ∙ none) in
     let taken : ((shown old).words f == 0) ≡ false = ne_eqb ((shown old).words f) 0 holds in
-    let behind : Space → ℕ → Table = λ (q : Space) (j : ℕ). record (shown old) { fresh = put_claim (shown old).fresh b q j false } in (
+    let past : Space → ℕ → Table = λ (q : Space) (j : ℕ). record (shown old) { fresh = put_claim (shown old).fresh b q j false } in (
       (allowed, is ∙ ap reply.Taken held ∙ sym (ap (λ (test : Bool). if test then reply.Ok else reply.Taken ((shown old).words f)) taken)),
-      unbound ∙ ap (λ (q : Space). behind q i) space ∙ ap (λ (j : ℕ). behind (space_of f) j) index
+      unbound ∙ ap (λ (q : Space). past q i) space ∙ ap (λ (j : ℕ). past (space_of f) j) index
           ∙ sym (ap (λ (test : Bool). if test then with_bound (shown old) b f word else with_unbound (shown old) b f word) taken),
       s,
     )
@@ -97,28 +97,28 @@ pub makes_bound : (old k1 k2 k3 k4 new : Kept) (b : ℕ) (f : Field) (word : ℕ
     p ≡ space_of f → i ≡ index_of word → id ≡ id_at (shown old) p i →
     shown k1 ≡ record (shown old) { words = put_field (shown old).words f word } →
     shown k2 ≡ record (shown k1) { bound = put_field (shown k1).bound f id } →
-    shown k3 ≡ record (shown k2) { ticket = tickets_behind (shown k2) b p i } →
+    shown k3 ≡ record (shown k2) { ticket = tickets_after (shown k2) b p i } →
     shown k4 ≡ record (shown k3) { fresh = put_claim (shown k3).fresh b p i false } →
     shown new ≡ record (shown k4) { cycle = touched_in (shown k4).cycle f word } →
     k1.spent ≡ old.spent → k2.spent ≡ k1.spent → k3.spent ≡ k2.spent → k4.spent ≡ k3.spent → new.spent ≡ k4.spent →
     Steps true old new (event b (Bind f word) said)
 makes_bound old k1 k2 k3 k4 new b f word p i id said allowed none is space index named e1 e2 e3 e4 e5 s1 s2 s3 s4 s5 =
     let zero : ((shown old).words f == 0) ≡ true = eq-eqb ((shown old).words f) 0 none in
-    let behind : Space → ℕ → Option ℕ → Table = λ (q : Space) (j : ℕ) (n : Option ℕ). record (shown old) {
+    let past : Space → ℕ → Option ℕ → Table = λ (q : Space) (j : ℕ) (n : Option ℕ). record (shown old) {
       words = put_field (shown old).words f word;
       bound = put_field (shown old).bound f n;
-      ticket = tickets_behind (shown old) b q j;
+      ticket = tickets_after (shown old) b q j;
       fresh = put_claim (shown old).fresh b q j false;
       cycle = touched_in (shown old).cycle f word;
     } in (
       (allowed, is ∙ sym (ap (λ (test : Bool). if test then reply.Ok else reply.Taken ((shown old).words f)) zero)),
       e5 ∙ ap (λ (t : Table). record t { cycle = touched_in t.cycle f word }) (
           e4 ∙ ap (λ (t : Table). record t { fresh = put_claim t.fresh b p i false }) (
-          e3 ∙ ap (λ (t : Table). record t { ticket = tickets_behind t b p i }) (
+          e3 ∙ ap (λ (t : Table). record t { ticket = tickets_after t b p i }) (
           e2 ∙ ap (λ (t : Table). record t { bound = put_field t.bound f id }) e1)))
-          ∙ ap (λ (n : Option ℕ). behind p i n) named
-          ∙ ap (λ (q : Space). behind q i (id_at (shown old) q i)) space
-          ∙ ap (λ (j : ℕ). behind (space_of f) j (id_at (shown old) (space_of f) j)) index
+          ∙ ap (λ (n : Option ℕ). past p i n) named
+          ∙ ap (λ (q : Space). past q i (id_at (shown old) q i)) space
+          ∙ ap (λ (j : ℕ). past (space_of f) j (id_at (shown old) (space_of f) j)) index
           ∙ sym (ap (λ (test : Bool). if test then with_bound (shown old) b f word else with_unbound (shown old) b f word) zero),
       s5 ∙ s4 ∙ s3 ∙ s2 ∙ s1,
     )
@@ -183,6 +183,6 @@ makes_publish old k1 k2 new b i said allowed is e1 e2 e3 s1 s2 s3 = (
 )
 
 -- what a step of the code says of the table behind it
-pub Steps-next : (old new : Kept) (e : Event) (told : Bool) → Steps told old new e → OnTrue told (shown new ≡ next (shown old) e)
+pub Steps-next : (old new : Kept) (e : Event) (done : Bool) → Steps done old new e → OnTrue done (shown new ≡ next (shown old) e)
 Steps-next old new e true steps = steps.1
 Steps-next old new e false steps = tt

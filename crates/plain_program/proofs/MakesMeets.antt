@@ -26,12 +26,12 @@ pub started-begun : (old mid new : Kept) (policy : Policy) (start : Option ℕ) 
     shown mid ≡ record (shown old) { fresh = λ b p i. false } →
     shown new ≡ record (shown mid) { cycle = Some (begun start origin) } → shown new ≡ started (shown old) policy
 started-begun old mid new policy start origin area kept e1 e2 =
-    let behind : Option ℕ → KeptOrigin → Table = λ (a : Option ℕ) (o : KeptOrigin). record (shown old) {
+    let past : Option ℕ → KeptOrigin → Table = λ (a : Option ℕ) (o : KeptOrigin). record (shown old) {
       fresh = λ b p i. false;
       cycle = Some (begun a o);
     } in
     e2 ∙ ap (λ (t : Table). record t { cycle = Some (begun start origin) }) e1
-    ∙ ap (λ (a : Option ℕ). behind a origin) area ∙ ap (behind (area_of (shown old) policy)) kept
+    ∙ ap (λ (a : Option ℕ). past a origin) area ∙ ap (past (area_of (shown old) policy)) kept
 
 pub makes_start : (old new : Kept) (b : ℕ) (policy : Policy) (said : Reply) → b ≡ 12 → (shown old).cycle ≡ None → said ≡ reply.Ok →
     shown new ≡ started (shown old) policy → new.spent ≡ old.spent → Steps true old new (event b (Start policy) said)

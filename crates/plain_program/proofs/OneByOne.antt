@@ -62,8 +62,8 @@ one_put s b (Start policy) = omega arith
 one_put s b Finish = ended s s.cycle
 
 -- so the ids given stay at most the events done
-few_more : (new behind old i : ℕ) → new ≡ behind → behind ≤ old + 1 → old ≤ i → new ≤ i + 1
-few_more new behind old i is more few = omega arith
+few_more : (new past old i : ℕ) → new ≡ past → past ≤ old + 1 → old ≤ i → new ≤ i + 1
+few_more new past old i is more few = omega arith
 
 few_first : (ids : ℕ) → ids ≡ 0 → ids ≤ 0
 few_first ids is = omega arith
@@ -90,8 +90,8 @@ ahead k first events i d below kept =
 
 -- behind a step that was made
 pub replayed-next : (old new : Kept) (first : Table) (events : List Event) (i : ℕ) (d : Event) → i < length events →
-    IsReplayed old first events i → (told : Bool) → told ≡ true → (IsTrue told ↔ CanStep old (get_or events i d)) →
-    OnTrue told (shown new ≡ next (shown old) (get_or events i d)) → OnTrue told (new.spent ≡ false) → IsReplayed new first events (i + 1)
+    IsReplayed old first events i → (done : Bool) → done ≡ true → (IsTrue done ↔ CanStep old (get_or events i d)) →
+    OnTrue done (shown new ≡ next (shown old) (get_or events i d)) → OnTrue done (new.spent ≡ false) → IsReplayed new first events (i + 1)
 replayed-next old new first events i d below kept false is answer made unspent = absurd (cc)
 replayed-next old new first events i d below kept true is answer made unspent =
     let can : CanStep old (get_or events i d) = answer.0 refl in

@@ -41,7 +41,7 @@ impl State {
         index: u32,
         said: Reply,
     ) -> Result<bool, OutOfMemory>
-        ensures { IfOk result (λ told. Steps told self.old self.new (event by (act.Mark space index) said)) }
+        ensures { IfOk result (λ done. Steps done self.old self.new (event by (act.Mark space index) said)) }
     {
         if !self.may_mark(space, index) || said != Reply::Ok {
             return Ok(false);
@@ -57,7 +57,7 @@ impl State {
         number: u32,
         said: Reply,
     ) -> Result<bool, OutOfMemory>
-        ensures { IfOk result (λ told. Steps told self.old self.new (event by (act.Evac index number) said)) }
+        ensures { IfOk result (λ done. Steps done self.old self.new (event by (act.Evac index number) said)) }
     {
         if !self.may_evacuate(by, index, number) || said != Reply::Ok {
             return Ok(false);
@@ -73,7 +73,7 @@ impl State {
         object: u32,
         said: Reply,
     ) -> Result<bool, OutOfMemory>
-        ensures { IfOk result (λ told. Steps told self.old self.new (event by (act.Scan object) said)) }
+        ensures { IfOk result (λ done. Steps done self.old self.new (event by (act.Scan object) said)) }
     {
         if !self.may_scan(object) || said != Reply::Ok {
             return Ok(false);

@@ -35,7 +35,7 @@ impl State {
         space: Space,
         said: Reply,
     ) -> Result<bool, OutOfMemory>
-        ensures { IfOk result (λ told. Steps told self.old self.new (event by (act.Take space) said)) }
+        ensures { IfOk result (λ done. Steps done self.old self.new (event by (act.Take space) said)) }
     {
         match self.least_free(space) {
             None => Ok(said == Reply::Full),
@@ -55,7 +55,7 @@ impl State {
         start: u32,
         said: Reply,
     ) -> Result<bool, OutOfMemory>
-        ensures { IfOk result (λ told. Steps told self.old self.new (event by (act.Below start) said)) }
+        ensures { IfOk result (λ done. Steps done self.old self.new (event by (act.Below start) said)) }
     {
         if self.area() != Some(start) {
             return Ok(false);
@@ -101,7 +101,7 @@ impl State {
         said: Reply,
     ) -> Result<bool, OutOfMemory>
         requires { self.old.next ≡ 2 ^ 64 - 1 → ⊥ }
-        ensures { IfOk result (λ told. Steps told self.old self.new (event by (act.Put space index tag value) said)) }
+        ensures { IfOk result (λ done. Steps done self.old self.new (event by (act.Put space index tag value) said)) }
     {
         if !self.may_put(by, space, index, tag, value) || said != Reply::Ok {
             return Ok(false);
@@ -150,7 +150,7 @@ impl State {
         word: u32,
         said: Reply,
     ) -> Result<bool, OutOfMemory>
-        ensures { IfOk result (λ told. Steps told self.old self.new (event by (act.Bind field word) said)) }
+        ensures { IfOk result (λ done. Steps done self.old self.new (event by (act.Bind field word) said)) }
     {
         if !self.may_bind(by, field, word) {
             return Ok(false);
@@ -176,7 +176,7 @@ impl State {
     ) -> Result<bool, OutOfMemory>
         requires allowed { (row (shown self.old) by (act.Bind field word)).allowed }
         requires zero { (shown self.old).words field ≡ 0 }
-        ensures { IfOk result (λ told. Steps told self.old self.new (event by (act.Bind field word) said)) }
+        ensures { IfOk result (λ done. Steps done self.old self.new (event by (act.Bind field word) said)) }
     {
         if said != Reply::Ok {
             return Ok(false);
@@ -201,7 +201,7 @@ impl State {
         value: u64,
         said: Reply,
     ) -> Result<bool, OutOfMemory>
-        ensures { IfOk result (λ told. Steps told self.old self.new (event by (act.Set word first last value) said)) }
+        ensures { IfOk result (λ done. Steps done self.old self.new (event by (act.Set word first last value) said)) }
     {
         let Some(cell) = self.cell_under(word, first, last) else {
             return Ok(false);
@@ -222,7 +222,7 @@ impl State {
         value: u64,
         said: Reply,
     ) -> Result<bool, OutOfMemory>
-        ensures { IfOk result (λ told. Steps told self.old self.new (event by (act.Swap word first last value) said)) }
+        ensures { IfOk result (λ done. Steps done self.old self.new (event by (act.Swap word first last value) said)) }
     {
         let Some(cell) = self.cell_under(word, first, last) else {
             return Ok(false);
@@ -241,7 +241,7 @@ impl State {
         word: u32,
         said: Reply,
     ) -> Result<bool, OutOfMemory>
-        ensures { IfOk result (λ told. Steps told self.old self.new (event by (act.Forge number word) said)) }
+        ensures { IfOk result (λ done. Steps done self.old self.new (event by (act.Forge number word) said)) }
     {
         let field = Field::External { number };
         if !self.holds(by, object_of(field)) || said != Reply::Ok {
@@ -259,7 +259,7 @@ impl State {
         index: u32,
         said: Reply,
     ) -> Result<bool, OutOfMemory>
-        ensures { IfOk result (λ told. Steps told self.old self.new (event by (act.Publish index) said)) }
+        ensures { IfOk result (λ done. Steps done self.old self.new (event by (act.Publish index) said)) }
     {
         if self.ticket(by) != Some(index) || said != Reply::Ok {
             return Ok(false);

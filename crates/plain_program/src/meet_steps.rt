@@ -28,7 +28,7 @@ impl State {
         policy: Policy,
         said: Reply,
     ) -> Result<bool, OutOfMemory>
-        ensures { IfOk result (λ told. Steps told self.old self.new (event by (act.Start policy) said)) }
+        ensures { IfOk result (λ done. Steps done self.old self.new (event by (act.Start policy) said)) }
     {
         if by != MEETING || self.in_cycle() || said != Reply::Ok {
             return Ok(false);
@@ -140,7 +140,7 @@ impl State {
         by: u32,
         said: Reply,
     ) -> Result<bool, OutOfMemory>
-        ensures { IfOk result (λ told. Steps told self.old self.new (event by act.Finish said)) }
+        ensures { IfOk result (λ done. Steps done self.old self.new (event by act.Finish said)) }
     {
         if by != MEETING || said != Reply::Ok || !self.may_finish(alloc)? {
             return Ok(false);

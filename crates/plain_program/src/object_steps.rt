@@ -13,7 +13,7 @@ impl State {
     ghost use Rattle.plain_table.specs.declared.events.Act.TheVariants as act;
 
     pub(crate) fn make_new(&mut self, by: u32, var: u32, said: Reply) -> Result<bool, OutOfMemory>
-        ensures { IfOk result (λ told. Steps told self.old self.new (event by (act.New var) said)) }
+        ensures { IfOk result (λ done. Steps done self.old self.new (event by (act.New var) said)) }
     {
         if by >= MUTATORS || var >= VARIABLES {
             return Ok(false);
@@ -32,7 +32,7 @@ impl State {
     }
 
     pub(crate) fn make_drop(&mut self, by: u32, var: u32, said: Reply) -> Result<bool, OutOfMemory>
-        ensures { IfOk result (λ told. Steps told self.old self.new (event by (act.Drop var) said)) }
+        ensures { IfOk result (λ done. Steps done self.old self.new (event by (act.Drop var) said)) }
     {
         if by >= MUTATORS || var >= VARIABLES || said != Reply::Ok {
             return Ok(false);
@@ -48,7 +48,7 @@ impl State {
         spot: Spot,
         said: Reply,
     ) -> Result<bool, OutOfMemory>
-        ensures { IfOk result (λ told. Steps told self.old self.new (event by (act.Get var spot) said)) }
+        ensures { IfOk result (λ done. Steps done self.old self.new (event by (act.Get var spot) said)) }
     {
         if by >= MUTATORS || var >= VARIABLES || !self.is_spot(by, spot) {
             return Ok(false);
@@ -68,7 +68,7 @@ impl State {
         var: Option<u32>,
         said: Reply,
     ) -> Result<bool, OutOfMemory>
-        ensures { IfOk result (λ told. Steps told self.old self.new (event by (act.Link spot var) said)) }
+        ensures { IfOk result (λ done. Steps done self.old self.new (event by (act.Link spot var) said)) }
     {
         if !self.is_spot(by, spot) || !self.is_full(by, var) || said != Reply::Ok {
             return Ok(false);

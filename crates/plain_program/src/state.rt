@@ -78,7 +78,7 @@ impl State {
     ghost use Rattle.plain_program.specs.Kept.{shown};
     ghost use Rattle.plain_table.specs.Ranges.{IsInRange};
     ghost use Rattle.plain_table.specs.Places.{put_at, put_pair, put_entry, put_field, put_claim};
-    ghost use Rattle.plain_table.specs.Rows.{Holds, at_spot, tickets_behind, with_linked};
+    ghost use Rattle.plain_table.specs.Rows.{Holds, at_spot, tickets_after, with_linked};
     ghost use Rattle.plain_table.specs.Cycle.{start_in, marked_in, born_in, scanned_in, touched_in, evacuated_in, aborted_in};
     ghost use Rattle.plain_table.specs.Table.{opening, limit_of, least_free};
     ghost use Rattle.plain_table.specs.declared.events.Space.TheVariants.{Trusted};
@@ -381,7 +381,7 @@ impl State {
         index: u32,
     ) -> Result<(), OutOfMemory>
         ensures table { let s = shown self.old in
-            OnOk result (shown self.new ≡ record s { ticket = tickets_behind s by space index }) }
+            OnOk result (shown self.new ≡ record s { ticket = tickets_after s by space index }) }
         ensures spent { OnOk result (self.new.spent ≡ self.old.spent) }
     {
         match space {

@@ -14,14 +14,14 @@ use std::alloc::Global;
 /// whether it was made (`CanStep` of `specs/Steps.antt`). A put that finds no further id than 2^64 - 1 is not made and
 /// spends the state, and so does an allocation that fails: every later step then answers false.
 pub fn step(alloc: Global, state: &mut State, event: &Event) -> Result<bool, OutOfMemory>
-    ensures answer { IfOk result (λ told. IsTrue told ↔ CanStep state.old event.now) }
-    ensures next { IfOk result (λ told. OnTrue told (shown state.new ≡ next (shown state.old) event.now)) }
-    ensures unspent { IfOk result (λ told. OnTrue told (state.new.spent ≡ false)) }
+    ensures answer { IfOk result (λ done. IsTrue done ↔ CanStep state.old event.now) }
+    ensures next { IfOk result (λ done. OnTrue done (shown state.new ≡ next (shown state.old) event.now)) }
+    ensures unspent { IfOk result (λ done. OnTrue done (state.new.spent ≡ false)) }
 
     // A put that finds no further id spends the state, and any other event that is not made leaves it as it was.
     ensures last_put { IsLastPut state.old event.now.act →
         OnOk result (state.new ≡ record state.old { spent = true }) }
-    ensures unchanged { IfOk result (λ told. OnFalse told
+    ensures unchanged { IfOk result (λ done. OnFalse done
         ((IsLastPut state.old event.now.act → ⊥) → state.new ≡ state.old)) }
     ensures out_of_memory { OnErr result (state.new.spent ≡ true) }
     ensures spent { IsTrue state.old.spent → result ≡ Ok false }
@@ -54,7 +54,7 @@ impl State {
     /// Makes the event, if it is legal.
     fn make(&mut self, alloc: Global, event: &Event) -> Result<bool, OutOfMemory>
         requires { IsLastPut self.old event.now.act → ⊥ }
-        ensures { IfOk result (λ told. Steps told self.old self.new event.now) }
+        ensures { IfOk result (λ done. Steps done self.old self.new event.now) }
     {
         let by = event.by;
         let said = event.said;

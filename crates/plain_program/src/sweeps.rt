@@ -50,7 +50,7 @@ impl Model for Swept {
 impl State {
     /// A cycle is under way, and may finish.
     pub(crate) fn may_finish(&self, alloc: Global) -> Result<bool, OutOfMemory>
-        ensures { IfOk result (λ told. IsTrue told ↔ InCycle (shown self.now) (CanFinish (shown self.now))) }
+        ensures { IfOk result (λ done. IsTrue done ↔ InCycle (shown self.now) (CanFinish (shown self.now))) }
     {
         match &self.cycle {
             Some(cycle) => {

@@ -29,5 +29,5 @@ with_linked_either P s (Global g) x global reference = global g
 with_linked_either P s (Ref object k) x global reference = reference object k
 
 pub finished_in_either : (P : Table → Type 0) (s : Table) (cycle : Option Cycle) → P s → ((c : Cycle) → P (finished s c)) → P (finished_in s cycle)
-finished_in_either P s None same behind = same
-finished_in_either P s (Some c) same behind = behind c
+finished_in_either P s None same past = same
+finished_in_either P s (Some c) same past = past c

@@ -43,7 +43,7 @@ next_free-le used i end = by_case (least_from used i (end - i)) refl
   where
     by_case : (found : Option ℕ) → least_from used i (end - i) ≡ found → unwrap_or found end ≤ end
     by_case None is = omega arith
-    by_case (Some k) is = let told = least_from-some used i (end - i) k is in omega (arith, told.1, told.2)
+    by_case (Some k) is = let known = least_from-some used i (end - i) k is in omega (arith, known.1, known.2)
 
 -- nor before the first index that is looked at
 pub next_free-ge : (used : ℕ → Bool) (i end : ℕ) → i ≤ end → i ≤ next_free used i end

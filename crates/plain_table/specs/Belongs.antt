@@ -23,16 +23,16 @@ use Rattle.plain_table.specs.Finish.{IsReachable}
 use Rattle.plain_table.specs.Rows.{value_at}
 use Rattle.plain_table.specs.History.{IsLegalHistory, after}
 use Rattle.plain_table.specs.Shapes.{MakesCalls, with_ticket}
-use Rattle.plain_table.specs.Scans.{Scans, Rest, IsReadBeside}
-use Rattle.plain_table.specs.Sweeps.{MeetBelongs, cells_in, linked_behind}
+use Rattle.plain_table.specs.Scans.{Scans, Rest, IsReadConcurrently}
+use Rattle.plain_table.specs.Sweeps.{MeetBelongs, cells_in, linked_after}
 
 -- the part of a history that is one phase: what happened beside each other, and then what happened at its meet
 pub record Part : Type 0 where
-  pub beside : List Event
+  pub during : List Event
   pub meet : List Event
 
 abbrev pub events_of : Part → List Event
-events_of part = part.beside ++ part.meet
+events_of part = part.during ++ part.meet
 
 -- the events of one number, in their order
 abbrev pub events_by : ℕ → List Event → List Event
@@ -56,18 +56,18 @@ pub record PhaseBelongs (limits : Limits) (begins : Bool) (linked : List ℕ) (s
   -- the events of each mutator are its calls, with the replies that are reported
   pub calls : (b : ℕ) → b < limits.mutators →
       MakesCalls b s.cycle (s.vars b) (with_ticket (s.ticket b)) (slice_index_or phase.calls b []) (slice_index_or report.replies b [])
-      (events_by b part.beside)
+      (events_by b part.during)
   -- the events of each marker are scans, of any objects
-  pub scans : (b : ℕ) → IsMarker limits b → Scans (λ t o. Unit {0}) IsReadBeside b Rest s part.beside Rest
+  pub scans : (b : ℕ) → IsMarker limits b → Scans (λ t o. Unit {0}) IsReadConcurrently b Rest s part.during Rest
   -- no other number makes an event beside them
-  pub numbers : All (λ (e : Event). (e.by < limits.mutators) ⊎ IsMarker limits e.by) part.beside
+  pub numbers : All (λ (e : Event). (e.by < limits.mutators) ⊎ IsMarker limits e.by) part.during
   -- in the first phase of a cycle markers scan each root
-  pub roots : IsTrue begins → 1 ≤ limits.markers → (o : ℕ) → IsRoot s.globals s.vars o → IsScannedIn limits part.beside o
+  pub roots : IsTrue begins → 1 ≤ limits.markers → (o : ℕ) → IsRoot s.globals s.vars o → IsScannedIn limits part.during o
   -- and each object that is reachable at its start, where nothing is linked to a reference concurrently
-  pub old : IsTrue begins → 1 ≤ limits.markers → LinkNoReference part.beside → (o : ℕ) → IsReachable s o →
-      IsScannedIn limits part.beside o
+  pub old : IsTrue begins → 1 ≤ limits.markers → LinkNoReference part.during → (o : ℕ) → IsReachable s o →
+      IsScannedIn limits part.during o
   pub lists : length report.replies ≡ limits.mutators
-  pub meet : MeetBelongs (linked_behind s linked part.beside) (after s part.beside) phase.meet part.meet report.meet
+  pub meet : MeetBelongs (linked_after s linked part.during) (after s part.during) phase.meet part.meet report.meet
 
 abbrev pub is_start : Meet → Bool
 is_start (Start policy) = true
@@ -78,7 +78,7 @@ abbrev pub PhasesBelong : Limits → Bool → List ℕ → Table → List Phase 
 PhasesBelong limits begins linked s [] [] [] = Unit {0}
 PhasesBelong limits begins linked s (phase ∷ phases) (part ∷ parts) (report ∷ reports) =
     PhaseBelongs limits begins linked s phase part report
-    × PhasesBelong limits (is_start phase.meet) (linked_behind s linked (events_of part)) (after s (events_of part)) phases parts reports
+    × PhasesBelong limits (is_start phase.meet) (linked_after s linked (events_of part)) (after s (events_of part)) phases parts reports
 PhasesBelong limits begins linked s _ _ _ = ⊥
 
 -- the parts, one after the other

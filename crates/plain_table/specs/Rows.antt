@@ -140,16 +140,16 @@ with_cell s b p i tag value = record s {
 }
 
 -- the tickets behind a bind: the trusted cell that a number filled and bound is its own to publish
-abbrev pub tickets_behind : Table → ℕ → Space → ℕ → ℕ → Option ℕ
-tickets_behind s b External i = s.ticket
-tickets_behind s b Trusted i = if s.fresh b Trusted i then put_at s.ticket b (Some i) else s.ticket
+abbrev pub tickets_after : Table → ℕ → Space → ℕ → ℕ → Option ℕ
+tickets_after s b External i = s.ticket
+tickets_after s b Trusted i = if s.fresh b Trusted i then put_at s.ticket b (Some i) else s.ticket
 
 abbrev pub with_bound : Table → ℕ → Field → ℕ → Table
 with_bound s b f word = record s {
   words = put_field s.words f word;
   bound = put_field s.bound f (id_at s (space_of f) (index_of word));
   fresh = put_claim s.fresh b (space_of f) (index_of word) false;
-  ticket = tickets_behind s b (space_of f) (index_of word);
+  ticket = tickets_after s b (space_of f) (index_of word);
   cycle = touched_in s.cycle f word;
 }
 

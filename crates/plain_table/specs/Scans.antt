@@ -23,8 +23,8 @@ abbrev pub AreFieldsOf : ℕ → List Field → Type 0
 AreFieldsOf o fields = (length fields ≡ 3) × ((f : Field) → object_of f ≡ o → Contains fields f)
 
 -- a word that a marker reads, concurrently with mutators: one that stood in the field in this cycle
-abbrev pub IsReadBeside : Table → Field → ℕ → Type 0
-IsReadBeside s f w = InCycle s (λ c. HasStood c f w)
+abbrev pub IsReadConcurrently : Table → Field → ℕ → Type 0
+IsReadConcurrently s f w = InCycle s (λ c. HasStood c f w)
 
 -- at a meet the word that stands in the field is read
 abbrev pub IsReadAtMeet : Table → Field → ℕ → Type 0

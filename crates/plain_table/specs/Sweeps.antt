@@ -38,9 +38,9 @@ linked_next s b (Start policy) linked = []
 linked_next s b (Link (Ref object k) target) linked = option_to_list (object_in s b target) ++ linked
 linked_next s b _ linked = linked
 
-abbrev pub linked_behind : Table → List ℕ → List Event → List ℕ
-linked_behind s linked [] = linked
-linked_behind s linked (e ∷ es) = linked_behind (next s e) (linked_next s e.by e.act linked) es
+abbrev pub linked_after : Table → List ℕ → List Event → List ℕ
+linked_after s linked [] = linked
+linked_after s linked (e ∷ es) = linked_after (next s e) (linked_next s e.by e.act linked) es
 
 -- what a meet may still have to scan: an object that was shaded in this cycle (a root at its start, or one that was
 -- linked to a reference since), a root, and what references of these hold

@@ -12,10 +12,10 @@ use Rattle.plain_table.specs.declared.scripts.Phase.{Phase}
 use Rattle.plain_table.specs.declared.scripts.Meet.TheVariants.{End}
 use Rattle.script_reader.specs.declared.lines.Call.{Call}
 use Rattle.script_reader.specs.declared.draft.Draft.{Draft}
-use Rattle.script_reader.specs.Grammar.{ops_of, lists_of, phase_of, ended, with_meet, cycle_behind}
+use Rattle.script_reader.specs.Grammar.{ops_of, lists_of, phase_of, ended, with_meet, cycle_after}
 use Rattle.script_reader.specs.Lines.{most_meets}
 use Rattle.script_reader.specs.Reading.{IsCall, IsDraft}
-use Rattle.script_reader.specs.Valid.{IsValidLimits, IsValidOp, IsValidPhase, IsValidScript, lists_length, operations_of, meet_behind, meets_behind}
+use Rattle.script_reader.specs.Valid.{IsValidLimits, IsValidOp, IsValidPhase, IsValidScript, lists_length, operations_of, meet_after, meets_after}
 
 ops-each : (a m k : ℕ) (calls : List Call) → All (IsCall a m) calls → All (IsValidOp a) (ops_of k calls)
 ops-each a m k [] h = All-nil (IsValidOp a)
@@ -68,14 +68,14 @@ operations-push [] phase = omega arith
 operations-push (first ∷ phases) phase = omega (arith, operations-push phases phase)
 
 pub meets-push : (cycle : Bool) (phases : List Phase) (phase : Phase)
-    → meets_behind cycle (phases ++ phase ∷ [])
-    ≡ option_and_then (λ next. meet_behind next phase.meet) (meets_behind cycle phases)
-meets-push cycle [] phase = elim (meet_behind cycle phase.meet)
+    → meets_after cycle (phases ++ phase ∷ [])
+    ≡ option_and_then (λ next. meet_after next phase.meet) (meets_after cycle phases)
+meets-push cycle [] phase = elim (meet_after cycle phase.meet)
     as (λ o. option_and_then (λ next. Some next) o ≡ o) [ None ↦ refl | Some x ↦ refl ]
 meets-push cycle (first ∷ phases) phase =
-    elim (meet_behind cycle first.meet)
-    as (λ o. option_and_then (λ next. meets_behind next (phases ++ phase ∷ [])) o
-    ≡ option_and_then (λ next. meet_behind next phase.meet) (option_and_then (λ next. meets_behind next phases) o))
+    elim (meet_after cycle first.meet)
+    as (λ o. option_and_then (λ next. meets_after next (phases ++ phase ∷ [])) o
+    ≡ option_and_then (λ next. meet_after next phase.meet) (option_and_then (λ next. meets_after next phases) o))
     [ None ↦ refl | Some x ↦ meets-push x phases phase ]
 
 phase-valid : (limits : Limits) (d : Draft) (meet : Meet) → IsDraft limits d
@@ -86,7 +86,7 @@ phase-valid limits d meet h = record {
 }
 
 pub draft-meet : (limits : Limits) (d : Draft) (meet : Meet) → IsDraft limits d
-    → meet_behind d.counts.in_cycle meet ≡ Some (cycle_behind d.counts.in_cycle meet) → d.counts.meets < most_meets
+    → meet_after d.counts.in_cycle meet ≡ Some (cycle_after d.counts.in_cycle meet) → d.counts.meets < most_meets
     → IsDraft limits (with_meet d meet)
 draft-meet limits d meet h proper few =
     let phase = phase_of d.counts.mutators d.calls meet in
@@ -95,7 +95,7 @@ draft-meet limits d meet h proper few =
       mutators = h.mutators;
       each = All-push (IsValidPhase d.counts.version limits.mutators) d.phases phase h.each (phase-valid limits d meet h);
       calls = All-nil (IsCall d.counts.version limits.mutators);
-      cycles = meets-push false d.phases phase ∙ ap (option_and_then (λ next. meet_behind next meet)) h.cycles ∙ proper;
+      cycles = meets-push false d.phases phase ∙ ap (option_and_then (λ next. meet_after next meet)) h.cycles ∙ proper;
       counted = omega (arith, length-append d.phases (phase ∷ []), h.counted);
       meets = omega (arith, few);
       held = omega (arith, operations-push d.phases phase, held-all d.counts.mutators d.calls, h.held);

@@ -13,7 +13,7 @@ use Rattle.script_reader.specs.declared.draft.Draft.{Draft}
 use Rattle.script_reader.specs.Spelling.{pieces}
 use Rattle.script_reader.specs.Lines.{is_skipped, line_of}
 use Rattle.script_reader.specs.Header.{header_of}
-use Rattle.script_reader.specs.Grammar.{bad_behind, end_at, ended, go_on, header_from, is_empty, lines_from, opening, refusal_at, script_of, with_line}
+use Rattle.script_reader.specs.Grammar.{bad_after, end_at, ended, go_on, header_from, is_empty, lines_from, opening, refusal_at, script_of, with_line}
 
 abbrev Named : Result Script ScriptErr → Type 0
 Named r = r ≡ Err refusal.OutOfMemory → ⊥
@@ -45,14 +45,14 @@ option_map_or-named f None y p q = q
 option_map_or-named f (Some x) y p q = p x
 
 end_at-named : (script : Script) (n : ℕ) (parts : List (List ℕ)) → Named (end_at script n parts)
-end_at-named script n parts = option_map_or-named _ (bad_behind n parts) _ line-named (ok-named script)
+end_at-named script n parts = option_map_or-named _ (bad_after n parts) _ line-named (ok-named script)
 
-go_on-named : (n : ℕ) (said : Result Line Fault) (at_end : Result Script ScriptErr) (behind : Line → Result Script ScriptErr)
-    → Named at_end → ((l : Line) → Named (behind l)) → Named (go_on n said at_end behind)
-go_on-named n (Err fault) at_end behind p q = refusal-named n fault
-go_on-named n (Ok line.Ending) at_end behind p q = p
-go_on-named n (Ok (line.Operation call)) at_end behind p q = q (line.Operation call)
-go_on-named n (Ok (line.Meeting meet)) at_end behind p q = q (line.Meeting meet)
+go_on-named : (n : ℕ) (said : Result Line Fault) (at_end : Result Script ScriptErr) (onward : Line → Result Script ScriptErr)
+    → Named at_end → ((l : Line) → Named (onward l)) → Named (go_on n said at_end onward)
+go_on-named n (Err fault) at_end onward p q = refusal-named n fault
+go_on-named n (Ok line.Ending) at_end onward p q = p
+go_on-named n (Ok (line.Operation call)) at_end onward p q = q (line.Operation call)
+go_on-named n (Ok (line.Meeting meet)) at_end onward p q = q (line.Meeting meet)
 
 lines_from-named : (limits : Limits) (d : Draft) (n : ℕ) (parts : List (List ℕ)) → Named (lines_from limits d n parts)
 lines_from-named limits d n [] = line-named n

@@ -22,8 +22,8 @@ use Rattle.script_reader.specs.declared.lines.Line.TheVariants as line
 use Rattle.script_reader.specs.declared.draft.Draft.{Draft}
 use Rattle.script_reader.specs.Spelling.{pieces}
 use Rattle.script_reader.specs.Lines.{is_skipped, line_of, most_operations, most_meets}
-use Rattle.script_reader.specs.Grammar.{cycle_behind, ended, lines_from, phase_of, with_call, with_meet}
-use Rattle.script_reader.specs.Valid.{IsValidOp, IsValidPhase, lists_length, operations_of, meet_behind, meets_behind}
+use Rattle.script_reader.specs.Grammar.{cycle_after, ended, lines_from, phase_of, with_call, with_meet}
+use Rattle.script_reader.specs.Valid.{IsValidOp, IsValidPhase, lists_length, operations_of, meet_after, meets_after}
 use Rattle.script_reader.specs.Canonical.{lists_text, meet_text, op_line, op_words, ops_text, phase_text, spaced}
 use Rattle.script_reader.proofs.Splitting.{slice_split-full}
 use Rattle.script_reader.proofs.Ink.{pieces-spaced}
@@ -107,19 +107,19 @@ lines-lists limits d n m (ops ∷ lists) rest each h b few =
     (after-append d (tagged m ops) (flat (m + 1) lists)) (omega arith)
 
 -- a meet
-outside : (cycle next : Bool) (policy : Policy) → meet_behind cycle (Start policy) ≡ Some next → cycle ≡ false
+outside : (cycle next : Bool) (policy : Policy) → meet_after cycle (Start policy) ≡ Some next → cycle ≡ false
 outside false next policy h = refl
 outside true next policy h = absurd cc
 
-inside : (cycle next : Bool) → meet_behind cycle Finish ≡ Some next → cycle ≡ true
+inside : (cycle next : Bool) → meet_after cycle Finish ≡ Some next → cycle ≡ true
 inside true next h = refl
 inside false next h = absurd cc
 
-no-end : (cycle next : Bool) → meet_behind cycle End ≡ Some next → ⊥
+no-end : (cycle next : Bool) → meet_after cycle End ≡ Some next → ⊥
 no-end true next h = absurd cc
 no-end false next h = absurd cc
 
-cycle-next : (cycle next : Bool) (meet : Meet) → meet_behind cycle meet ≡ Some next → cycle_behind cycle meet ≡ next
+cycle-next : (cycle next : Bool) (meet : Meet) → meet_after cycle meet ≡ Some next → cycle_after cycle meet ≡ next
 cycle-next cycle next Plain h = cc
 cycle-next false next (Start policy) h = cc
 cycle-next true next (Start policy) h = absurd cc
@@ -129,7 +129,7 @@ cycle-next true next End h = absurd cc
 cycle-next false next End h = absurd cc
 
 lines-meeting : (limits : Limits) (d : Draft) (n : ℕ) (meet : Meet) (rest : List ℕ) (next : Bool)
-    → meet_behind d.counts.in_cycle meet ≡ Some next → d.counts.meets < most_meets
+    → meet_after d.counts.in_cycle meet ≡ Some next → d.counts.meets < most_meets
     → lines_from limits d n (pieces (meet_text meet ++ rest))
     ≡ lines_from limits (with_meet d meet) (n + 1) (pieces rest)
 lines-meeting limits d n Plain rest next h few =
@@ -153,28 +153,28 @@ lines-meeting limits d n End rest next h few = absurd (no-end d.counts.in_cycle 
 abbrev fresh : List Phase → Counts → Draft
 fresh phases c = record { phases = phases; calls = []; counts = c }
 
-abbrev counts_behind : Counts → Phase → Counts
-counts_behind c phase = record c {
+abbrev counts_after : Counts → Phase → Counts
+counts_after c phase = record c {
   operations = c.operations + length (flat 0 phase.calls);
   meets = c.meets + 1;
-  in_cycle = cycle_behind c.in_cycle phase.meet;
+  in_cycle = cycle_after c.in_cycle phase.meet;
 }
 
 sorted : (a mutators : ℕ) (phase : Phase) (meet : Meet) → IsValidPhase a mutators phase → phase.meet ≡ meet
     → phase_of mutators (flat 0 phase.calls) meet ≡ phase
 sorted a mutators phase meet valid e = rw (lists-flat mutators phase.calls valid.lists, ← e) refl
 
-behind-phase : (phases : List Phase) (c : Counts) (phase : Phase) → IsValidPhase c.version c.mutators phase
+onward-phase : (phases : List Phase) (c : Counts) (phase : Phase) → IsValidPhase c.version c.mutators phase
     → with_meet (after_calls (fresh phases c) (flat 0 phase.calls)) phase.meet
-    ≡ fresh (phases ++ phase ∷ []) (counts_behind c phase)
-behind-phase phases c phase valid =
-    ap (λ p. fresh (phases ++ p ∷ []) (counts_behind c phase)) (sorted c.version c.mutators phase phase.meet valid refl)
+    ≡ fresh (phases ++ phase ∷ []) (counts_after c phase)
+onward-phase phases c phase valid =
+    ap (λ p. fresh (phases ++ p ∷ []) (counts_after c phase)) (sorted c.version c.mutators phase phase.meet valid refl)
 
 lines-phase : (limits : Limits) (phases : List Phase) (c : Counts) (n : ℕ) (phase : Phase) (rest : List ℕ) (next : Bool)
     → IsValidPhase c.version c.mutators phase → c.mutators ≤ 8 → c.operations + lists_length phase.calls ≤ most_operations
-    → c.meets < most_meets → meet_behind c.in_cycle phase.meet ≡ Some next
+    → c.meets < most_meets → meet_after c.in_cycle phase.meet ≡ Some next
     → lines_from limits (fresh phases c) n (pieces (phase_text phase ++ rest))
-    ≡ lines_from limits (fresh (phases ++ phase ∷ []) (counts_behind c phase)) (n + lists_length phase.calls + 1) (pieces rest)
+    ≡ lines_from limits (fresh (phases ++ phase ∷ []) (counts_after c phase)) (n + lists_length phase.calls + 1) (pieces rest)
 lines-phase limits phases c n phase rest next valid b few more h =
     ap (λ text. lines_from limits (fresh phases c) n (pieces text))
     (append_assoc (lists_text 0 phase.calls) (meet_text phase.meet) rest)
@@ -182,7 +182,7 @@ lines-phase limits phases c n phase rest next valid b few more h =
     (omega (arith, valid.lists)) b few
     ∙ lines-meeting limits (after_calls (fresh phases c) (flat 0 phase.calls)) (n + lists_length phase.calls) phase.meet rest
     next h more
-    ∙ ap (λ d. lines_from limits d (n + lists_length phase.calls + 1) (pieces rest)) (behind-phase phases c phase valid)
+    ∙ ap (λ d. lines_from limits d (n + lists_length phase.calls + 1) (pieces rest)) (onward-phase phases c phase valid)
 
 -- the end
 lines-end : (limits : Limits) (d : Draft) (n : ℕ) → d.counts.in_cycle ≡ false
@@ -205,18 +205,18 @@ lines-last limits phases c n last valid b few ends outside =
     ∙ ap result made
 
 -- all phases
-step : (cycle : Bool) (phase : Phase) (phases : List Phase) → meets_behind cycle (phase ∷ phases) ≡ Some false
-    → (next : Bool) × ((meet_behind cycle phase.meet ≡ Some next) × (meets_behind next phases ≡ Some false))
+step : (cycle : Bool) (phase : Phase) (phases : List Phase) → meets_after cycle (phase ∷ phases) ≡ Some false
+    → (next : Bool) × ((meet_after cycle phase.meet ≡ Some next) × (meets_after next phases ≡ Some false))
 step cycle phase phases h =
-    (elim (meet_behind cycle phase.meet)
-    as (λ o. option_and_then (λ next. meets_behind next phases) o ≡ Some false
-    → (next : Bool) × ((o ≡ Some next) × (meets_behind next phases ≡ Some false)))
+    (elim (meet_after cycle phase.meet)
+    as (λ o. option_and_then (λ next. meets_after next phases) o ≡ Some false
+    → (next : Bool) × ((o ≡ Some next) × (meets_after next phases ≡ Some false)))
     [ None ↦ λ g. absurd cc | Some next ↦ λ g. (next, (refl, g)) ]) h
 
 pub lines-phases : (limits : Limits) (before : List Phase) (c : Counts) (n : ℕ) (phases : List Phase) (last : Phase)
     → All (IsValidPhase c.version c.mutators) (phases ++ last ∷ []) → c.mutators ≤ 8
     → c.operations + operations_of (phases ++ last ∷ []) ≤ most_operations → c.meets + length phases ≤ most_meets
-    → meets_behind c.in_cycle phases ≡ Some false → last.meet ≡ End
+    → meets_after c.in_cycle phases ≡ Some false → last.meet ≡ End
     → lines_from limits (fresh before c) n (pieces (flat_map phase_text (phases ++ last ∷ [])))
     ≡ Ok (record { version = c.version; limits = limits; phases = before ++ (phases ++ last ∷ []) })
 lines-phases limits before c n [] last each b few more cycles ends =
@@ -225,11 +225,11 @@ lines-phases limits before c n (phase ∷ phases) last each b few more cycles en
     let rest : List ℕ = flat_map phase_text (phases ++ last ∷ []) in
     let s = step c.in_cycle phase phases cycles in
     let valid : IsValidPhase c.version c.mutators phase = All-head (IsValidPhase c.version c.mutators) phase (phases ++ last ∷ []) each in
-    let turn : cycle_behind c.in_cycle phase.meet ≡ s.0 = cycle-next c.in_cycle s.0 phase.meet s.1.0 in
-    let behind : meets_behind (cycle_behind c.in_cycle phase.meet) phases ≡ Some false = rw turn s.1.1 in
+    let turn : cycle_after c.in_cycle phase.meet ≡ s.0 = cycle-next c.in_cycle s.0 phase.meet s.1.0 in
+    let onward : meets_after (cycle_after c.in_cycle phase.meet) phases ≡ Some false = rw turn s.1.1 in
     let result : (p : List Phase) → Result Script ScriptErr = λ p. Ok (record { version = c.version; limits = limits; phases = p }) in
     lines-phase limits before c n phase rest s.0 valid b (omega arith) (omega arith) s.1.0
-    ∙ lines-phases limits (before ++ phase ∷ []) (counts_behind c phase) (n + lists_length phase.calls + 1) phases last
+    ∙ lines-phases limits (before ++ phase ∷ []) (counts_after c phase) (n + lists_length phase.calls + 1) phases last
     (All-tail (IsValidPhase c.version c.mutators) phase (phases ++ last ∷ []) each) b
-    (omega (arith, flat-length 0 phase.calls)) (omega arith) behind ends
+    (omega (arith, flat-length 0 phase.calls)) (omega arith) onward ends
     ∙ ap result (append_assoc before (phase ∷ []) (phases ++ last ∷ []))

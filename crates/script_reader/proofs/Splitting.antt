@@ -34,7 +34,7 @@ slice_split-full p (x ∷ xs) =
     elim (p x) as (λ b. is_empty (cond b ([] ∷ slice_split p xs) (onto_first x (slice_split p xs))) ≡ false)
     [ true ↦ refl | false ↦ onto_first-full x (slice_split p xs) ]
 
-next : {parts : List (List ℕ)} {word : List ℕ} (behind : List (List ℕ)) → parts ≡ word ∷ behind → is_empty behind ≡ false
+next : {parts : List (List ℕ)} {word : List ℕ} (onward : List (List ℕ)) → parts ≡ word ∷ onward → is_empty onward ≡ false
     → (a b : List ℕ) × (more : List (List ℕ)) × (parts ≡ a ∷ b ∷ more)
 next [] h full = absurd cc
 next {word = word} (b ∷ more) h full = (word, b, more, h)

@@ -139,8 +139,8 @@ first_of fault (Err other) = if nat_le (order fault) (order other) then fault el
 
 -- what one place says, and then those behind it
 abbrev pub read_on : Result Said Fault → Said → (Said → Result Said Fault) → Result Said Fault
-read_on (Ok said) before behind = behind said
-read_on (Err fault) before behind = Err (first_of fault (behind before))
+read_on (Ok said) before onward = onward said
+read_on (Err fault) before onward = Err (first_of fault (onward before))
 
 -- what the words at these places say, just as many: each place's fault counts, and the one tested first is the answer
 abbrev pub read_places : ℕ → List Place → List (List ℕ) → Said → Result Said Fault

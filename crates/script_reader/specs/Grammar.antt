@@ -51,10 +51,10 @@ abbrev pub phase_of : ℕ → List Call → Meet → Phase
 phase_of mutators calls meet = record { calls = lists_of mutators calls; meet = meet }
 
 -- whether a cycle is under way behind a meet
-abbrev pub cycle_behind : Bool → Meet → Bool
-cycle_behind cycle (Start policy) = true
-cycle_behind cycle Finish = false
-cycle_behind cycle _ = cycle
+abbrev pub cycle_after : Bool → Meet → Bool
+cycle_after cycle (Start policy) = true
+cycle_after cycle Finish = false
+cycle_after cycle _ = cycle
 
 -- what is read so far, behind an operation and behind a meet
 abbrev pub with_call : Draft → Call → Draft
@@ -67,7 +67,7 @@ abbrev pub with_meet : Draft → Meet → Draft
 with_meet d meet = record d {
   phases = d.phases ++ phase_of d.counts.mutators d.calls meet ∷ [];
   calls = [];
-  counts = record d.counts { meets = d.counts.meets + 1; in_cycle = cycle_behind d.counts.in_cycle meet };
+  counts = record d.counts { meets = d.counts.meets + 1; in_cycle = cycle_after d.counts.in_cycle meet };
 }
 
 abbrev pub with_line : Draft → Line → Draft
@@ -85,23 +85,23 @@ ended limits d = record {
 
 -- the first line behind `end` that is not skipped or lacks its end of line, where there is one; behind the last end of
 -- line nothing stands
-abbrev pub bad_behind : ℕ → List (List ℕ) → Option ℕ
-bad_behind n [] = Some n
-bad_behind n (piece ∷ rest) =
+abbrev pub bad_after : ℕ → List (List ℕ) → Option ℕ
+bad_after n [] = Some n
+bad_after n (piece ∷ rest) =
     if is_empty rest then (if is_empty piece then None else Some n)
-    else (if is_skipped piece then bad_behind (n + 1) rest else Some n)
+    else (if is_skipped piece then bad_after (n + 1) rest else Some n)
 
 -- `end`, and what follows it from line n on
 abbrev pub end_at : Script → ℕ → List (List ℕ) → Result Script ScriptErr
-end_at script n rest = option_map_or (λ bad. Err (refusal.BadLine bad)) (bad_behind n rest) (Ok script)
+end_at script n rest = option_map_or (λ bad. Err (refusal.BadLine bad)) (bad_after n rest) (Ok script)
 
 -- what follows a line by what it says: its refusal, the end, or the lines behind it
 abbrev pub go_on : ℕ → Result Line Fault → Result Script ScriptErr → (Line → Result Script ScriptErr)
     → Result Script ScriptErr
-go_on n (Err fault) at_end behind = Err (refusal_at n fault)
-go_on n (Ok line.Ending) at_end behind = at_end
-go_on n (Ok (line.Operation call)) at_end behind = behind (line.Operation call)
-go_on n (Ok (line.Meeting meet)) at_end behind = behind (line.Meeting meet)
+go_on n (Err fault) at_end onward = Err (refusal_at n fault)
+go_on n (Ok line.Ending) at_end onward = at_end
+go_on n (Ok (line.Operation call)) at_end onward = onward (line.Operation call)
+go_on n (Ok (line.Meeting meet)) at_end onward = onward (line.Meeting meet)
 
 -- the lines from line n on; what follows the last end of line is no line, and refused
 abbrev pub lines_from : Limits → Draft → ℕ → List (List ℕ) → Result Script ScriptErr

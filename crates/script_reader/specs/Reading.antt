@@ -10,8 +10,8 @@ use Rattle.script_reader.specs.declared.lines.Line.{Line}
 use Rattle.script_reader.specs.declared.lines.Line.TheVariants as line
 use Rattle.script_reader.specs.declared.draft.Draft.{Draft}
 use Rattle.script_reader.specs.Lines.{most_operations, most_meets}
-use Rattle.script_reader.specs.Grammar.{cycle_behind}
-use Rattle.script_reader.specs.Valid.{IsVersion, IsValidLimits, IsVariable, IsTarget, IsTagOf, IsRangeOf, IsValue, IsWord, IsValidOp, IsValidPhase, meet_behind, meets_behind, operations_of}
+use Rattle.script_reader.specs.Grammar.{cycle_after}
+use Rattle.script_reader.specs.Valid.{IsVersion, IsValidLimits, IsVariable, IsTarget, IsTagOf, IsRangeOf, IsValue, IsWord, IsValidOp, IsValidPhase, meet_after, meets_after, operations_of}
 
 -- a version, and limits in their ranges
 pub record IsValidHeader (header : Header) : Type 0 where
@@ -40,7 +40,7 @@ pub record IsCall (version mutators : ℕ) (call : Call) : Type 0 where
 abbrev pub IsLine : Counts → Line → Type 0
 IsLine c (line.Operation call) = IsCall c.version c.mutators call × (c.operations < most_operations)
 IsLine c (line.Meeting meet) =
-    (meet_behind c.in_cycle meet ≡ Some (cycle_behind c.in_cycle meet)) × (c.meets < most_meets)
+    (meet_after c.in_cycle meet ≡ Some (cycle_after c.in_cycle meet)) × (c.meets < most_meets)
 IsLine c line.Ending = c.in_cycle ≡ false
 
 -- what is read so far of a script with these limits, and its counts
@@ -49,7 +49,7 @@ pub record IsDraft (limits : Limits) (d : Draft) : Type 0 where
   pub mutators : d.counts.mutators ≡ limits.mutators
   pub each : All (IsValidPhase d.counts.version limits.mutators) d.phases
   pub calls : All (IsCall d.counts.version limits.mutators) d.calls
-  pub cycles : meets_behind false d.phases ≡ Some d.counts.in_cycle
+  pub cycles : meets_after false d.phases ≡ Some d.counts.in_cycle
   pub counted : length d.phases ≡ d.counts.meets
   pub meets : d.counts.meets ≤ most_meets
   pub held : operations_of d.phases + length d.calls ≤ d.counts.operations

@@ -75,17 +75,17 @@ pub record IsValidPhase (version mutators : ℕ) (phase : Phase) : Type 0 where
   pub each : All (All (IsValidOp version)) phase.calls
 
 -- whether a cycle is under way behind a meet that may stand there; the end is no meet between phases
-abbrev pub meet_behind : Bool → Meet → Option Bool
-meet_behind cycle Plain = Some cycle
-meet_behind false (Start policy) = Some true
-meet_behind true Finish = Some false
-meet_behind _ _ = None
+abbrev pub meet_after : Bool → Meet → Option Bool
+meet_after cycle Plain = Some cycle
+meet_after false (Start policy) = Some true
+meet_after true Finish = Some false
+meet_after _ _ = None
 
 -- the same behind the meets of some phases
-abbrev pub meets_behind : Bool → List Phase → Option Bool
-meets_behind cycle [] = Some cycle
-meets_behind cycle (phase ∷ phases) =
-    option_and_then (λ next. meets_behind next phases) (meet_behind cycle phase.meet)
+abbrev pub meets_after : Bool → List Phase → Option Bool
+meets_after cycle [] = Some cycle
+meets_after cycle (phase ∷ phases) =
+    option_and_then (λ next. meets_after next phases) (meet_after cycle phase.meet)
 
 -- how many operations there are in some lists, and in some phases
 abbrev pub lists_length : List (List Op) → ℕ
@@ -105,6 +105,6 @@ pub record IsValidScript (script : Script) : Type 0 where
   pub last : Phase
   pub split : script.phases ≡ phases ++ last ∷ []
   pub ends : last.meet ≡ End
-  pub cycles : meets_behind false phases ≡ Some false
+  pub cycles : meets_after false phases ≡ Some false
   pub meets : length phases ≤ most_meets
   pub operations : operations_of script.phases ≤ most_operations

@@ -2,7 +2,7 @@
 // names.
 ghost use Rattle.std.specs.Prelude.{◌≡◌, ◌<◌, ◌≤◌, IfOk};
 ghost use Rattle.std.specs.List.{All};
-ghost use Rattle.script_reader.specs.Grammar.{cycle_behind, ended, lists_of, opening, ops_of, with_call, with_line, with_meet};
+ghost use Rattle.script_reader.specs.Grammar.{cycle_after, ended, lists_of, opening, ops_of, with_call, with_line, with_meet};
 ghost use Rattle.script_reader.specs.Lines.{most_meets, most_operations};
 ghost use Rattle.script_reader.specs.Reading.{IsCall, IsDraft, IsLine};
 ghost use Rattle.script_reader.specs.Valid.{IsValidLimits, IsValidScript, IsVersion};
@@ -109,7 +109,7 @@ impl Draft {
             calls: Items::new(alloc),
             counts: Counts {
                 meets: counts.meets + 1,
-                in_cycle: is_cycle_behind(counts.in_cycle, meet),
+                in_cycle: is_cycle_after(counts.in_cycle, meet),
                 ..counts
             },
         })
@@ -155,9 +155,9 @@ impl Draft {
     }
 }
 
-/// Whether a cycle is under way behind a meet (`cycle_behind`).
-fn is_cycle_behind(cycle: bool, meet: Meet) -> bool
-    ensures { result ≡ cycle_behind cycle meet }
+/// Whether a cycle is under way behind a meet (`cycle_after`).
+fn is_cycle_after(cycle: bool, meet: Meet) -> bool
+    ensures { result ≡ cycle_after cycle meet }
 {
     match meet {
         Meet::Start { .. } => true,

@@ -325,10 +325,10 @@ fn read_range(version: u32, word: &[u8], said: Said) -> Result<Said, Fault>
 
 /// Of a place's fault and the one of the places behind it, where they have one, the one that is tested first
 /// (`first_of`).
-fn first_fault(fault: Fault, behind: Result<Said, Fault>) -> Fault
-    ensures { result ≡ first_of fault behind }
+fn first_fault(fault: Fault, onward: Result<Said, Fault>) -> Fault
+    ensures { result ≡ first_of fault onward }
 {
-    match behind {
+    match onward {
         Ok(_) => fault,
         Err(other) => {
             if fault.order() <= other.order() {
@@ -356,10 +356,10 @@ fn read_all(version: u32, places: &[Place], rest: Option<&[u8]>, said: Said) -> 
             let Some(text) = rest else {
                 return Err(Fault::BadLine);
             };
-            let (word, behind) = next_word(text);
+            let (word, onward) = next_word(text);
             match read_at(version, *place, word, said) {
-                Ok(next) => read_all(version, more, behind, next),
-                Err(fault) => Err(first_fault(fault, read_all(version, more, behind, said))),
+                Ok(next) => read_all(version, more, onward, next),
+                Err(fault) => Err(first_fault(fault, read_all(version, more, onward, said))),
             }
         }
     }

@@ -1,9 +1,9 @@
 // The lines behind the header. Each function computes the definition of `specs/Lines.antt` that its contract names.
 ghost use Rattle.std.specs.Prelude.{◌≡◌, ◌<◌, [], ◌∷◌, IfOk, Some, true};
 ghost use Rattle.std.specs.Option.{option_map_or};
-ghost use Rattle.script_reader.specs.Grammar.{cycle_behind};
+ghost use Rattle.script_reader.specs.Grammar.{cycle_after};
 ghost use Rattle.script_reader.specs.Reading.{IsLine};
-ghost use Rattle.script_reader.specs.Valid.{meet_behind};
+ghost use Rattle.script_reader.specs.Valid.{meet_after};
 ghost use Rattle.script_reader.specs.Spelling.{words};
 ghost use Rattle.script_reader.specs.Lines.{alone, end_line, form_line, is_skipped, line_of, meet_line, mutator_line, operation_line, policy_of, start_line};
 
@@ -105,7 +105,7 @@ fn alone(counts: Counts, rest: Option<&[u8]>, said: Result<Line, Fault>) -> Resu
 
 /// A meet more, where it may stand (`meet_line`).
 fn meeting(counts: Counts, proper: bool, meet: Meet) -> Result<Line, Fault>
-    requires { proper ≡ true → meet_behind counts.in_cycle meet ≡ Some (cycle_behind counts.in_cycle meet) }
+    requires { proper ≡ true → meet_after counts.in_cycle meet ≡ Some (cycle_after counts.in_cycle meet) }
     ensures value { result ≡ meet_line counts proper meet }
     ensures valid { IfOk result (IsLine counts) }
 {

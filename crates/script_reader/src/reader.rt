@@ -1,7 +1,7 @@
 // The reader of scripts. Each function computes the definition of `specs/Grammar.antt` that its contract names.
 ghost use Rattle.std.specs.Prelude.{◌≡◌, ◌⊎◌, ◌+◌, ◌<◌, ◌^◌, length, Err, IfOk};
 ghost use Rattle.script_reader.specs.Spelling.{pieces};
-ghost use Rattle.script_reader.specs.Grammar.{bad_behind, end_at, ended, lines_from, opening, script_of};
+ghost use Rattle.script_reader.specs.Grammar.{bad_after, end_at, ended, lines_from, opening, script_of};
 ghost use Rattle.script_reader.specs.Reading.{IsDraft, IsLine, IsValidHeader};
 ghost use Rattle.script_reader.specs.Valid.{IsValidLimits, IsValidScript};
 
@@ -16,10 +16,10 @@ use std::alloc::Global;
 /// A text of fewer bytes has a number of 32 bits for each line.
 const MOST_BYTES: usize = 0xffff_ffff;
 
-/// The first line behind `end`, with which `first` begins to count, that may not stand there (`bad_behind`).
+/// The first line behind `end`, with which `first` begins to count, that may not stand there (`bad_after`).
 fn bad_line(after: &[u8], first: u32) -> Option<u32>
     requires { first + length after.now < 2 ^ 32 }
-    ensures { result ≡ bad_behind first (pieces after.now) }
+    ensures { result ≡ bad_after first (pieces after.now) }
 {
     let mut line = first;
     let mut rest = after;

@@ -15,8 +15,8 @@ use Rattle.plain_table.specs.Table.{Table, least_free}
 use Rattle.plain_table.specs.Finish.{IsKept, place, started}
 use Rattle.plain_table.specs.Rows.{row, IsNamed, object_in, free_below, with_object, with_bound, with_unbound}
 use Rattle.plain_table.specs.History.{IsLegalHistory, next, after}
-use Rattle.table_laws.specs.Steady.{IsBeside}
-use Rattle.table_laws.specs.Causes.{Writes, AreBeside, HasCause}
+use Rattle.table_laws.specs.Steady.{IsDuringPhase}
+use Rattle.table_laws.specs.Causes.{Writes, AreDuringPhase, HasCause}
 use Rattle.table_laws.specs.Laws.{FinishesArePrecise}
 use Rattle.plain_table.proofs.PlaceReads.{read_entry, put_field-grows}
 use Rattle.plain_table.proofs.Options.{IsSome-value}
@@ -64,54 +64,54 @@ module _ (p : Space) (i : ℕ) where
 
   -- behind an event beside others an index is marked only where it was, or the event writes there, or a word that stood
   -- in a field names it
-  GoesOn-row : (s : Table) (b : ℕ) (a : Act) → IsBeside a → (row s b a).allowed →
+  GoesOn-row : (s : Table) (b : ℕ) (a : Act) → IsDuringPhase a → (row s b a).allowed →
       GoesOn s.cycle (row s b a).next.cycle p i (Writes a p i ⊎ IsNamedIn s.cycle p i)
-  GoesOn-row s b (New var) beside k =
+  GoesOn-row s b (New var) during k =
       if_either (λ t. GoesOn s.cycle t.cycle p i (Writes (New var) p i ⊎ IsNamedIn s.cycle p i)) (nat_lt s.count s.sizes.objects) (with_object s b var) s
       (GoesOn-changed s.cycle (with_birth s.count) (λ c h. inl h) (λ c h. h)) (GoesOn-same s.cycle)
-  GoesOn-row s b (Drop var) beside k = GoesOn-same s.cycle
-  GoesOn-row s b (Get var spot) beside k = GoesOn-same s.cycle
-  GoesOn-row s b (Link spot var) beside k =
+  GoesOn-row s b (Drop var) during k = GoesOn-same s.cycle
+  GoesOn-row s b (Get var spot) during k = GoesOn-same s.cycle
+  GoesOn-row s b (Link spot var) during k =
       with_linked_either (λ t. GoesOn s.cycle t.cycle p i (Writes (Link spot var) p i ⊎ IsNamedIn s.cycle p i)) s spot (object_in s b var)
       (λ g. GoesOn-same s.cycle) (λ object n. GoesOn-same s.cycle)
-  GoesOn-row s b (Take q) beside k =
+  GoesOn-row s b (Take q) during k =
       with_taken_either (λ t. GoesOn s.cycle t.cycle p i (Writes (Take q) p i ⊎ IsNamedIn s.cycle p i)) s b q (least_free s q)
       (GoesOn-same s.cycle) (λ j. GoesOn-same s.cycle)
-  GoesOn-row s b (Below start) beside k =
+  GoesOn-row s b (Below start) during k =
       with_taken_either (λ t. GoesOn s.cycle t.cycle p i (Writes (Below start) p i ⊎ IsNamedIn s.cycle p i)) s b External (free_below s start)
       (GoesOn-same s.cycle) (λ j. GoesOn-same s.cycle)
-  GoesOn-row s b Abort beside k = GoesOn-changed s.cycle with_abort (λ c h. inl h) (λ c h. h)
-  GoesOn-row s b (Put q j tag value) beside k = GoesOn-marked s.cycle q j (λ same. inl same)
-  GoesOn-row s b (Bind f word) beside k =
+  GoesOn-row s b Abort during k = GoesOn-changed s.cycle with_abort (λ c h. inl h) (λ c h. h)
+  GoesOn-row s b (Put q j tag value) during k = GoesOn-marked s.cycle q j (λ same. inl same)
+  GoesOn-row s b (Bind f word) during k =
       if_either (λ t. GoesOn s.cycle t.cycle p i (Writes (Bind f word) p i ⊎ IsNamedIn s.cycle p i)) (s.words f == 0) (with_bound s b f word) (with_unbound s b f word)
       (GoesOn-touched s.cycle f word) (GoesOn-same s.cycle)
-  GoesOn-row s b (Name f) beside k = GoesOn-same s.cycle
-  GoesOn-row s b (Look q word first last) beside k = GoesOn-same s.cycle
-  GoesOn-row s b (Set word first last value) beside k = GoesOn-marked s.cycle External (index_of word) (λ same. inl (sym same.0, same.1))
-  GoesOn-row s b (Swap word first last value) beside k = GoesOn-marked s.cycle External (index_of word) (λ same. inl (sym same.0, same.1))
-  GoesOn-row s b (Forge number word) beside k = GoesOn-touched s.cycle (field.External number) word
-  GoesOn-row s b (Publish j) beside k = GoesOn-marked s.cycle Trusted j (λ same. inl (sym same.0, same.1))
-  GoesOn-row s b (Mark q j) beside k =
+  GoesOn-row s b (Name f) during k = GoesOn-same s.cycle
+  GoesOn-row s b (Look q word first last) during k = GoesOn-same s.cycle
+  GoesOn-row s b (Set word first last value) during k = GoesOn-marked s.cycle External (index_of word) (λ same. inl (sym same.0, same.1))
+  GoesOn-row s b (Swap word first last value) during k = GoesOn-marked s.cycle External (index_of word) (λ same. inl (sym same.0, same.1))
+  GoesOn-row s b (Forge number word) during k = GoesOn-touched s.cycle (field.External number) word
+  GoesOn-row s b (Publish j) during k = GoesOn-marked s.cycle Trusted j (λ same. inl (sym same.0, same.1))
+  GoesOn-row s b (Mark q j) during k =
       GoesOn-marked s.cycle q j (λ same. inr (named_at_mark s.cycle q j (IsSome (s.cells q j)) k same))
-  GoesOn-row s b (Evac j number) beside k = GoesOn-changed s.cycle (with_entry j number) (λ c h. inl h) (λ c h. h)
-  GoesOn-row s b (Scan o) beside k = GoesOn-changed s.cycle (with_scan o) (λ c h. inl h) (λ c h. h)
-  GoesOn-row s b (Start policy) beside k = absurd beside
-  GoesOn-row s b Finish beside k = absurd beside
+  GoesOn-row s b (Evac j number) during k = GoesOn-changed s.cycle (with_entry j number) (λ c h. inl h) (λ c h. h)
+  GoesOn-row s b (Scan o) during k = GoesOn-changed s.cycle (with_scan o) (λ c h. inl h) (λ c h. h)
+  GoesOn-row s b (Start policy) during k = absurd during
+  GoesOn-row s b Finish during k = absurd during
 
-  IsNamedIn-after : (es : List Event) (s : Table) → IsLegalHistory s es → AreBeside es → IsNamedIn s.cycle p i → IsNamedIn (after s es).cycle p i
-  IsNamedIn-after [] s legal beside h = h
-  IsNamedIn-after (e ∷ es) s legal beside h =
-      IsNamedIn-after es (next s e) legal.1 beside.1 ((GoesOn-row s e.by e.act beside.0 legal.0.0).names h)
+  IsNamedIn-after : (es : List Event) (s : Table) → IsLegalHistory s es → AreDuringPhase es → IsNamedIn s.cycle p i → IsNamedIn (after s es).cycle p i
+  IsNamedIn-after [] s legal during h = h
+  IsNamedIn-after (e ∷ es) s legal during h =
+      IsNamedIn-after es (next s e) legal.1 during.1 ((GoesOn-row s e.by e.act during.0 legal.0.0).names h)
 
   -- a mark behind a history stood before it, or has its cause
-  IsMarkedIn-after : (es : List Event) (s : Table) → IsLegalHistory s es → AreBeside es → IsMarkedIn (after s es).cycle p i →
+  IsMarkedIn-after : (es : List Event) (s : Table) → IsLegalHistory s es → AreDuringPhase es → IsMarkedIn (after s es).cycle p i →
       IsMarkedIn s.cycle p i ⊎ HasCause s es p i
-  IsMarkedIn-after [] s legal beside h = inl h
-  IsMarkedIn-after (e ∷ es) s legal beside h = elim (IsMarkedIn-after es (next s e) legal.1 beside.1 h) [
-    | inl mark ↦ elim ((GoesOn-row s e.by e.act beside.0 legal.0.0).marks mark) [
+  IsMarkedIn-after [] s legal during h = inl h
+  IsMarkedIn-after (e ∷ es) s legal during h = elim (IsMarkedIn-after es (next s e) legal.1 during.1 h) [
+    | inl mark ↦ elim ((GoesOn-row s e.by e.act during.0 legal.0.0).marks mark) [
       | inl old ↦ inl old
       | inr (inl writes) ↦ inr (inl (inl writes))
-      | inr (inr named) ↦ inr (inr (IsNamedIn-after (e ∷ es) s legal beside named))
+      | inr (inr named) ↦ inr (inr (IsNamedIn-after (e ∷ es) s legal during named))
     ]
     | inr (inl written) ↦ inr (inl (inr written))
     | inr (inr named) ↦ inr (inr named)
@@ -122,10 +122,10 @@ pub IsKept-marked : (c : Cycle) (words : Field → ℕ) (p : Space) (i : ℕ) �
 IsKept-marked c words p i h = let to = IsSome-value (place c words p i) h in place-marked c words p i to.0 to.1
 
 pub finishes-precise : FinishesArePrecise
-finishes-precise s policy es p i legal beside c now kept =
+finishes-precise s policy es p i legal during c now kept =
     let t = after (started s policy) es in
     let marked : IsMarkedIn t.cycle p i = subst (λ (cycle : Option Cycle). IsMarkedIn cycle p i) (sym now) (IsKept-marked c t.words p i kept) in
-    elim (IsMarkedIn-after p i es (started s policy) legal beside marked) [
+    elim (IsMarkedIn-after p i es (started s policy) legal during marked) [
       | inl old ↦ absurd (cc)
       | inr cause ↦ cause
     ]

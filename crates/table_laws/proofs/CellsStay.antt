@@ -17,7 +17,7 @@ use Rattle.plain_table.specs.Table.{Table, least_free}
 use Rattle.plain_table.specs.Rows.{InCycle, row, free_below, with_object, with_cell, with_bound, with_unbound}
 use Rattle.plain_table.specs.History.{IsLegal}
 use Rattle.plain_table.specs.Sound.{IsSound}
-use Rattle.table_laws.specs.Steady.{IsBeside, CellsSteady}
+use Rattle.table_laws.specs.Steady.{IsDuringPhase, CellsSteady}
 use Rattle.plain_table.proofs.PlaceReads.{read_entry, put_entry-same}
 use Rattle.plain_table.proofs.Options.{IsSome-none, IsSomeAnd-by, option_map-none}
 use Rattle.plain_table.proofs.Branches.{if_either, with_taken_either}
@@ -134,33 +134,33 @@ CellsSteady-put s b said p i tag value empty = record {
       | inr r ↦ absurd (IsSome-none ((with_cell s b p i tag value).cells q j) (r.1 ∙ none) found)
     ]
 
-pub CellsSteady-row : (s : Table) (b : ℕ) (a : Act) (said : Reply) → IsSound s → IsLegal s (record { by = b; act = a; said = said }) → IsBeside a →
+pub CellsSteady-row : (s : Table) (b : ℕ) (a : Act) (said : Reply) → IsSound s → IsLegal s (record { by = b; act = a; said = said }) → IsDuringPhase a →
     CellsSteady s (record { by = b; act = a; said = said }) (row s b a).next
-CellsSteady-row s b (New var) said h k beside =
+CellsSteady-row s b (New var) said h k during =
     if_either (CellsSteady s (record { by = b; act = New var; said = said })) (nat_lt s.count s.sizes.objects) (with_object s b var) s
     (CellsSteady-same _ _ _ refl) (CellsSteady-same _ _ _ refl)
-CellsSteady-row s b (Link (Global g) var) said h k beside = CellsSteady-same _ _ _ refl
-CellsSteady-row s b (Link (Ref object n) var) said h k beside = CellsSteady-same _ _ _ refl
-CellsSteady-row s b (Take p) said h k beside =
+CellsSteady-row s b (Link (Global g) var) said h k during = CellsSteady-same _ _ _ refl
+CellsSteady-row s b (Link (Ref object n) var) said h k during = CellsSteady-same _ _ _ refl
+CellsSteady-row s b (Take p) said h k during =
     with_taken_either (CellsSteady s (record { by = b; act = Take p; said = said })) s b p (least_free s p)
     (CellsSteady-same _ _ _ refl) (λ i. CellsSteady-same _ _ _ refl)
-CellsSteady-row s b (Below start) said h k beside =
+CellsSteady-row s b (Below start) said h k during =
     with_taken_either (CellsSteady s (record { by = b; act = Below start; said = said })) s b External (free_below s start)
     (CellsSteady-same _ _ _ refl) (λ i. CellsSteady-same _ _ _ refl)
-CellsSteady-row s b (Put p i tag value) said h k beside =
+CellsSteady-row s b (Put p i tag value) said h k during =
     CellsSteady-put s b said p i tag value (option_map-none (λ (cell : Cell). cell.id) (s.cells p i) ((h.used.claims b p i k.0.0).2))
-CellsSteady-row s b (Bind f w) said h k beside =
+CellsSteady-row s b (Bind f w) said h k during =
     if_either (CellsSteady s (record { by = b; act = Bind f w; said = said })) (s.words f == 0) (with_bound s b f w) (with_unbound s b f w)
     (CellsSteady-same _ _ _ refl) (CellsSteady-same _ _ _ refl)
-CellsSteady-row s b (Set w first last value) said h k beside =
+CellsSteady-row s b (Set w first last value) said h k during =
     CellsSteady-change _ _ _ External (index_of w) (λ (c : Cell). record c { value = value }) (record { ids = λ c. refl; tags = λ c. refl })
     (λ c wrong. absurd (cc)) (λ c. inl refl) refl refl
-CellsSteady-row s b (Swap w first last value) said h k beside =
+CellsSteady-row s b (Swap w first last value) said h k during =
     CellsSteady-change _ _ _ External (index_of w) (λ (c : Cell). record c { value = value }) (record { ids = λ c. refl; tags = λ c. refl })
     (λ c wrong. absurd (cc)) (λ c. inl refl) refl refl
-CellsSteady-row s b (Publish i) said h k beside =
+CellsSteady-row s b (Publish i) said h k during =
     CellsSteady-change _ _ _ Trusted i (λ (c : Cell). record c { shown = true }) (record { ids = λ c. refl; tags = λ c. refl })
     (λ c is. refl) (λ c. inr (refl, refl)) refl refl
-CellsSteady-row s b (Start policy) said h k beside = absurd beside
-CellsSteady-row s b Finish said h k beside = absurd beside
-CellsSteady-row s b _ said h k beside = CellsSteady-same _ _ _ refl
+CellsSteady-row s b (Start policy) said h k during = absurd during
+CellsSteady-row s b Finish said h k during = absurd during
+CellsSteady-row s b _ said h k during = CellsSteady-same _ _ _ refl

@@ -17,7 +17,7 @@ use Rattle.plain_table.specs.Table.{Table, least_free}
 use Rattle.plain_table.specs.Rows.{row, free_below, with_object, with_bound, with_unbound}
 use Rattle.plain_table.specs.History.{IsLegal}
 use Rattle.plain_table.specs.Sound.{IsSound, entries_in}
-use Rattle.table_laws.specs.Steady.{IsBeside, CycleSteady, CyclesSteady}
+use Rattle.table_laws.specs.Steady.{IsDuringPhase, CycleSteady, CyclesSteady}
 use Rattle.plain_table.proofs.PlaceReads.{read_at, put_at-grows, put_entry-grows, put_field-grows}
 use Rattle.plain_table.proofs.Branches.{if_either, with_taken_either}
 
@@ -59,31 +59,31 @@ CyclesSteady-evacuated (Some c) i number empty = search (put_at-grows, entries)
       | inr r ↦ r.1 ∙ h
     ]
 
-pub CyclesSteady-row : (s : Table) (b : ℕ) (a : Act) (said : Reply) → IsSound s → IsLegal s (record { by = b; act = a; said = said }) → IsBeside a →
+pub CyclesSteady-row : (s : Table) (b : ℕ) (a : Act) (said : Reply) → IsSound s → IsLegal s (record { by = b; act = a; said = said }) → IsDuringPhase a →
     CyclesSteady s.cycle (row s b a).next.cycle
-CyclesSteady-row s b (New var) said h k beside =
+CyclesSteady-row s b (New var) said h k during =
     if_either (λ t. CyclesSteady s.cycle t.cycle) (nat_lt s.count s.sizes.objects) (with_object s b var) s
     (CyclesSteady-changed s.cycle (CycleSteady-birth s.count)) (CyclesSteady-same s.cycle)
-CyclesSteady-row s b (Link (Global g) var) said h k beside = CyclesSteady-same s.cycle
-CyclesSteady-row s b (Link (Ref object n) var) said h k beside = CyclesSteady-same s.cycle
-CyclesSteady-row s b (Take p) said h k beside =
+CyclesSteady-row s b (Link (Global g) var) said h k during = CyclesSteady-same s.cycle
+CyclesSteady-row s b (Link (Ref object n) var) said h k during = CyclesSteady-same s.cycle
+CyclesSteady-row s b (Take p) said h k during =
     with_taken_either (λ t. CyclesSteady s.cycle t.cycle) s b p (least_free s p) (CyclesSteady-same s.cycle) (λ i. CyclesSteady-same s.cycle)
-CyclesSteady-row s b (Below start) said h k beside =
+CyclesSteady-row s b (Below start) said h k during =
     with_taken_either (λ t. CyclesSteady s.cycle t.cycle) s b External (free_below s start) (CyclesSteady-same s.cycle)
     (λ i. CyclesSteady-same s.cycle)
-CyclesSteady-row s b Abort said h k beside = CyclesSteady-changed s.cycle CycleSteady-abort
-CyclesSteady-row s b (Put p i tag value) said h k beside = CyclesSteady-changed s.cycle (CycleSteady-mark p i)
-CyclesSteady-row s b (Bind f w) said h k beside =
+CyclesSteady-row s b Abort said h k during = CyclesSteady-changed s.cycle CycleSteady-abort
+CyclesSteady-row s b (Put p i tag value) said h k during = CyclesSteady-changed s.cycle (CycleSteady-mark p i)
+CyclesSteady-row s b (Bind f w) said h k during =
     if_either (λ t. CyclesSteady s.cycle t.cycle) (s.words f == 0) (with_bound s b f w) (with_unbound s b f w)
     (CyclesSteady-changed s.cycle (CycleSteady-word f w)) (CyclesSteady-same s.cycle)
-CyclesSteady-row s b (Set w first last value) said h k beside = CyclesSteady-changed s.cycle (CycleSteady-mark External (index_of w))
-CyclesSteady-row s b (Swap w first last value) said h k beside = CyclesSteady-changed s.cycle (CycleSteady-mark External (index_of w))
-CyclesSteady-row s b (Forge number w) said h k beside = CyclesSteady-changed s.cycle (CycleSteady-word (field.External number) w)
-CyclesSteady-row s b (Publish i) said h k beside = CyclesSteady-changed s.cycle (CycleSteady-mark Trusted i)
-CyclesSteady-row s b (Mark p i) said h k beside = CyclesSteady-changed s.cycle (CycleSteady-mark p i)
-CyclesSteady-row s b (Evac i number) said h k beside =
+CyclesSteady-row s b (Set w first last value) said h k during = CyclesSteady-changed s.cycle (CycleSteady-mark External (index_of w))
+CyclesSteady-row s b (Swap w first last value) said h k during = CyclesSteady-changed s.cycle (CycleSteady-mark External (index_of w))
+CyclesSteady-row s b (Forge number w) said h k during = CyclesSteady-changed s.cycle (CycleSteady-word (field.External number) w)
+CyclesSteady-row s b (Publish i) said h k during = CyclesSteady-changed s.cycle (CycleSteady-mark Trusted i)
+CyclesSteady-row s b (Mark p i) said h k during = CyclesSteady-changed s.cycle (CycleSteady-mark p i)
+CyclesSteady-row s b (Evac i number) said h k during =
     CyclesSteady-evacuated s.cycle i number (h.used.claim_or_entry b i k.0.0)
-CyclesSteady-row s b (Scan o) said h k beside = CyclesSteady-changed s.cycle (CycleSteady-scan o)
-CyclesSteady-row s b (Start policy) said h k beside = absurd beside
-CyclesSteady-row s b Finish said h k beside = absurd beside
-CyclesSteady-row s b _ said h k beside = CyclesSteady-same s.cycle
+CyclesSteady-row s b (Scan o) said h k during = CyclesSteady-changed s.cycle (CycleSteady-scan o)
+CyclesSteady-row s b (Start policy) said h k during = absurd during
+CyclesSteady-row s b Finish said h k during = absurd during
+CyclesSteady-row s b _ said h k during = CyclesSteady-same s.cycle

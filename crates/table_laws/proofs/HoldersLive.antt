@@ -22,7 +22,7 @@ use Rattle.plain_table.specs.Holders.{CanBeSeen, IsLiveHolder}
 use Rattle.plain_table.specs.Rows.{row, free_below, finished_in, with_object, with_bound, with_unbound}
 use Rattle.plain_table.specs.History.{IsLegal}
 use Rattle.plain_table.specs.Sound.{IsSound}
-use Rattle.table_laws.specs.Steady.{IsBeside}
+use Rattle.table_laws.specs.Steady.{IsDuringPhase}
 use Rattle.table_laws.specs.Laws.{HoldersStayLive}
 use Rattle.plain_table.proofs.Options.{IsSomeAnd-by, IsSomeAnd-is, IsSomeAnd-some, IsSome-value, option_map-some}
 use Rattle.plain_table.proofs.PlaceReads.{read_field, put_entry-same}
@@ -63,11 +63,11 @@ module _ (s : Table) (f : Field) (id : ℕ) (h : IsSound s) (reach : IsReachable
   bound-row b _ = inl bound
 
 -- a cell that can be seen is seen behind an event beside others
-seen-beside : (s : Table) (b : ℕ) (a : Act) (said : Reply) (p : Space) (i : ℕ) (c : Cell) → IsSound s →
-    IsLegal s (record { by = b; act = a; said = said }) → IsBeside a → s.cells p i ≡ Some c → IsTrue c.shown →
+seen-during : (s : Table) (b : ℕ) (a : Act) (said : Reply) (p : Space) (i : ℕ) (c : Cell) → IsSound s →
+    IsLegal s (record { by = b; act = a; said = said }) → IsDuringPhase a → s.cells p i ≡ Some c → IsTrue c.shown →
     IsSomeAnd ((row s b a).next.cells p i) (λ d. (d.id ≡ c.id) × IsTrue d.shown)
-seen-beside s b a said p i c h legal beside at shown =
-    let steady = CellsSteady-row s b a said h legal beside in
+seen-during s b a said p i c h legal during at shown =
+    let steady = CellsSteady-row s b a said h legal during in
     let stays = steady.stay p i c at in
     let found = IsSome-value ((row s b a).next.cells p i) (IsSomeAnd-some ((row s b a).next.cells p i) (λ d. (d.id ≡ c.id) × (d.tag ≡ c.tag)) stays) in
     let same = IsSomeAnd-is ((row s b a).next.cells p i) (λ d. (d.id ≡ c.id) × (d.tag ≡ c.tag)) found.0 found.1 stays in
@@ -90,12 +90,12 @@ seen-beside s b a said p i c h legal beside at shown =
 -- a finish keeps the cell of a bound field of a reachable object, and with it whether it can be seen
 seen-finish : (s : Table) (c : Cycle) (f : Field) (id : ℕ) → IsSound s → IsSound (finished s c) → IsReachable s (object_of f) →
     s.bound f ≡ Some id → CanBeSeen s id → CanBeSeen (finished s c) id
-seen-finish s c f id h behind reach bound live =
+seen-finish s c f id h past reach bound live =
     let p = live.0 in
     let i = live.1 in
     let seen = live.2 in
     let e = index_of ((finished s c).words f) in
-    let own : id_at (finished s c) (space_of f) e ≡ Some id = behind.fields.own f id reach bound in
+    let own : id_at (finished s c) (space_of f) e ≡ Some id = past.fields.own f id reach bound in
     let cell = option_map-some (λ (x : Cell). x.id) ((finished s c).cells (space_of f) e) id own in
     let came = swept-from s c (space_of f) e cell.0 cell.1 in
     let old = IsSome-value (s.cells p i) (IsSomeAnd-some (s.cells p i) (λ x. (x.id ≡ id) × IsTrue x.shown) seen) in
@@ -115,25 +115,25 @@ seen-finish s c f id h behind reach bound live =
 -- the same of the row of the finish
 finished_in-seen : (s : Table) (cycle : Option Cycle) (f : Field) (id : ℕ) → IsSound s → IsSound (finished_in s cycle) →
     IsReachable s (object_of f) → s.bound f ≡ Some id → CanBeSeen s id → CanBeSeen (finished_in s cycle) id
-finished_in-seen s None f id h behind reach bound live = live
-finished_in-seen s (Some c) f id h behind reach bound live = seen-finish s c f id h behind reach bound live
+finished_in-seen s None f id h past reach bound live = live
+finished_in-seen s (Some c) f id h past reach bound live = seen-finish s c f id h past reach bound live
 
 -- an act is beside others, or the start or the finish of a cycle
 data Kind (a : Act) : Type 0 where
-  Beside : IsBeside a → Kind a
+  During : IsDuringPhase a → Kind a
   Starts : (policy : Policy) → a ≡ Start policy → Kind a
   Ends : a ≡ Finish → Kind a
 
 kind_of : (a : Act) → Kind a
 kind_of (Start policy) = Starts policy refl
 kind_of Finish = Ends refl
-kind_of _ = Beside tt
+kind_of _ = During tt
 
 -- the cell of a live holder can be seen behind an event
 seen-row : (s : Table) (b : ℕ) (a : Act) (said : Reply) (f : Field) (id : ℕ) → IsSound s → IsLegal s (record { by = b; act = a; said = said }) →
     IsLiveHolder s f id → CanBeSeen (row s b a).next id
 seen-row s b a said f id h legal live = elim (kind_of a) [
-  | Beside beside ↦
+  | During during ↦
       let p = live.2.0 in
       let i = live.2.1 in
       let old = IsSome-value (s.cells p i) (IsSomeAnd-some (s.cells p i) (λ x. (x.id ≡ id) × IsTrue x.shown) live.2.2) in
@@ -141,7 +141,7 @@ seen-row s b a said f id h legal live = elim (kind_of a) [
         p,
         i,
         subst (λ (n : ℕ). IsSomeAnd ((row s b a).next.cells p i) (λ d. (d.id ≡ n) × IsTrue d.shown)) is.0
-            (seen-beside s b a said p i old.0 h legal beside old.1 is.1),
+            (seen-during s b a said p i old.0 h legal during old.1 is.1),
       )
   | Starts policy is ↦ subst (λ (x : Act). CanBeSeen (row s b x).next id) (sym is) live.2
   | Ends is ↦

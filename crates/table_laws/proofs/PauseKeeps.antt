@@ -18,7 +18,7 @@ use Rattle.plain_table.specs.History.{IsLegalHistory, next, after}
 use Rattle.plain_table.specs.Sound.{IsSound}
 use Rattle.plain_table.specs.Sweeps.{IsDue, Was_root, Was_linked, Is_root, Is_referred}
 use Rattle.table_laws.specs.Pauses.{IsPauseAct}
-use Rattle.table_laws.specs.Steady.{IsBeside, CycleSteady, CyclesSteady}
+use Rattle.table_laws.specs.Steady.{IsDuringPhase, CycleSteady, CyclesSteady}
 use Rattle.table_laws.proofs.Soundness.{events-sound}
 use Rattle.table_laws.proofs.Steadiness.{events-steady}
 
@@ -174,13 +174,13 @@ CycleSteady-join b c d one two = record {
   came = λ f w is. two.came f w (one.came f w is);
 }
 
-IsBeside-pause : (a : Act) → IsPauseAct a → IsBeside a
-IsBeside-pause (Mark p i) is = tt
-IsBeside-pause (Below start) is = tt
-IsBeside-pause (Evac i number) is = tt
-IsBeside-pause Abort is = tt
-IsBeside-pause (Scan o) is = tt
-IsBeside-pause _ is = absurd is
+IsDuringPhase-pause : (a : Act) → IsPauseAct a → IsDuringPhase a
+IsDuringPhase-pause (Mark p i) is = tt
+IsDuringPhase-pause (Below start) is = tt
+IsDuringPhase-pause (Evac i number) is = tt
+IsDuringPhase-pause Abort is = tt
+IsDuringPhase-pause (Scan o) is = tt
+IsDuringPhase-pause _ is = absurd is
 
 -- what a legal run of a pause keeps: soundness, the cycle's own parts, and the safety of bound fields
 pub record IsKeptBy (s : Table) (c : Cycle) (t : Table) : Type 0 where
@@ -195,7 +195,7 @@ pub kept-after : (es : List Event) (s : Table) (c : Cycle) → IsSound s → s.c
 kept-after [] s c h is all legal = record { cycle = c; is = is; sound = h; steady = CycleSteady-refl c; safe = λ f id bound safe. safe }
 kept-after (e ∷ es) s c h is all legal =
     let act = All-head (λ (e : Event). IsPauseAct e.act) e es all in
-    let one = events-steady s e h legal.0 (IsBeside-pause e.act act) in
+    let one = events-steady s e h legal.0 (IsDuringPhase-pause e.act act) in
     let calm = calm-row s e.by e.act act in
     let now = CyclesSteady-some s.cycle (next s e).cycle c is one.cycle in
     let rest = kept-after es (next s e) now.0 (events-sound s e h legal.0) now.1 (All-tail (λ (e : Event). IsPauseAct e.act) e es all) legal.1 in

@@ -18,7 +18,7 @@ use Rattle.plain_table.specs.Table.{Table, least_free}
 use Rattle.plain_table.specs.Finish.{IsReachable, id_at}
 use Rattle.plain_table.specs.Rows.{row, free_below, with_object, with_taken, with_cell, with_bound, with_unbound, with_forged}
 use Rattle.plain_table.specs.Sound.{IsSound}
-use Rattle.table_laws.specs.Steady.{IsBeside}
+use Rattle.table_laws.specs.Steady.{IsDuringPhase}
 use Rattle.plain_table.proofs.PlaceReads.{read_field, read_claim, put_entry-grows, put_field-other}
 use Rattle.plain_table.proofs.Branches.{if_either, if_by, with_taken_either}
 use Rattle.plain_table.proofs.Options.{IsSome-none, option_map-none}
@@ -32,18 +32,18 @@ pub UsedSteady-taken : (s : Table) (b : ℕ) (p : Space) (found : Option ℕ) �
 UsedSteady-taken s b p None q j h = h
 UsedSteady-taken s b p (Some i) q j h = put_entry-grows s.used p i q j h
 
-pub UsedSteady-row : (s : Table) (b : ℕ) (a : Act) → IsBeside a → UsedSteady s (row s b a).next
-UsedSteady-row s b (New var) beside =
+pub UsedSteady-row : (s : Table) (b : ℕ) (a : Act) → IsDuringPhase a → UsedSteady s (row s b a).next
+UsedSteady-row s b (New var) during =
     if_either (UsedSteady s) (nat_lt s.count s.sizes.objects) (with_object s b var) s (λ p i h. h) (λ p i h. h)
-UsedSteady-row s b (Link (Global g) var) beside = λ p i h. h
-UsedSteady-row s b (Link (Ref object k) var) beside = λ p i h. h
-UsedSteady-row s b (Take p) beside = UsedSteady-taken s b p (least_free s p)
-UsedSteady-row s b (Below start) beside = UsedSteady-taken s b External (free_below s start)
-UsedSteady-row s b (Bind f w) beside =
+UsedSteady-row s b (Link (Global g) var) during = λ p i h. h
+UsedSteady-row s b (Link (Ref object k) var) during = λ p i h. h
+UsedSteady-row s b (Take p) during = UsedSteady-taken s b p (least_free s p)
+UsedSteady-row s b (Below start) during = UsedSteady-taken s b External (free_below s start)
+UsedSteady-row s b (Bind f w) during =
     if_either (UsedSteady s) (s.words f == 0) (with_bound s b f w) (with_unbound s b f w) (λ p i h. h) (λ p i h. h)
-UsedSteady-row s b (Start policy) beside = absurd beside
-UsedSteady-row s b Finish beside = absurd beside
-UsedSteady-row s b _ beside = λ p i h. h
+UsedSteady-row s b (Start policy) during = absurd during
+UsedSteady-row s b Finish during = absurd during
+UsedSteady-row s b _ during = λ p i h. h
 
 -- only an index with no cell becomes fresh
 abbrev pub FreshSteady : Table → Table → Type 0
@@ -55,23 +55,23 @@ FreshSteady-put s b p i tag value empty c q j h = elim (read_claim s.fresh b p i
   | inr r ↦ inl (sym r.1 ∙ h)
 ]
 
-pub FreshSteady-row : (s : Table) (b : ℕ) (a : Act) → IsSound s → (row s b a).allowed → IsBeside a → FreshSteady s (row s b a).next
-FreshSteady-row s b (New var) h k beside =
+pub FreshSteady-row : (s : Table) (b : ℕ) (a : Act) → IsSound s → (row s b a).allowed → IsDuringPhase a → FreshSteady s (row s b a).next
+FreshSteady-row s b (New var) h k during =
     if_either (FreshSteady s) (nat_lt s.count s.sizes.objects) (with_object s b var) s (λ c p i is. inl is) (λ c p i is. inl is)
-FreshSteady-row s b (Link (Global g) var) h k beside = λ c p i is. inl is
-FreshSteady-row s b (Link (Ref object n) var) h k beside = λ c p i is. inl is
-FreshSteady-row s b (Take p) h k beside = with_taken_either (FreshSteady s) s b p (least_free s p) (λ c q i is. inl is) (λ j c q i is. inl is)
-FreshSteady-row s b (Below start) h k beside =
+FreshSteady-row s b (Link (Global g) var) h k during = λ c p i is. inl is
+FreshSteady-row s b (Link (Ref object n) var) h k during = λ c p i is. inl is
+FreshSteady-row s b (Take p) h k during = with_taken_either (FreshSteady s) s b p (least_free s p) (λ c q i is. inl is) (λ j c q i is. inl is)
+FreshSteady-row s b (Below start) h k during =
     with_taken_either (FreshSteady s) s b External (free_below s start) (λ c q i is. inl is) (λ j c q i is. inl is)
-FreshSteady-row s b (Put p i tag value) h k beside =
+FreshSteady-row s b (Put p i tag value) h k during =
     FreshSteady-put s b p i tag value (option_map-none (λ (cell : Cell). cell.id) (s.cells p i) ((h.used.claims b p i k.0).2))
-FreshSteady-row s b (Bind f w) h k beside =
+FreshSteady-row s b (Bind f w) h k during =
     if_either (FreshSteady s) (s.words f == 0) (with_bound s b f w) (with_unbound s b f w)
     (λ c p i is. inl (put_claim-was s.fresh b (space_of f) (index_of w) c p i is))
     (λ c p i is. inl (put_claim-was s.fresh b (space_of f) (index_of w) c p i is))
-FreshSteady-row s b (Start policy) h k beside = absurd beside
-FreshSteady-row s b Finish h k beside = absurd beside
-FreshSteady-row s b _ h k beside = λ c p i is. inl is
+FreshSteady-row s b (Start policy) h k during = absurd during
+FreshSteady-row s b Finish h k during = absurd during
+FreshSteady-row s b _ h k during = λ c p i is. inl is
 
 -- a bound field keeps its id and its word as long as it stays bound
 abbrev pub BoundSteady : Table → Table → Type 0
@@ -99,24 +99,24 @@ BoundSteady-forged s number w g id bound some = elim (read_field None s.bound (f
   | inr r ↦ (r.1 ∙ bound, put_field-other s.words (field.External number) g w r.0)
 ]
 
-pub BoundSteady-row : (s : Table) (b : ℕ) (a : Act) → IsSound s → (row s b a).allowed → IsBeside a → BoundSteady s (row s b a).next
-BoundSteady-row s b (New var) h k beside =
+pub BoundSteady-row : (s : Table) (b : ℕ) (a : Act) → IsSound s → (row s b a).allowed → IsDuringPhase a → BoundSteady s (row s b a).next
+BoundSteady-row s b (New var) h k during =
     if_either (BoundSteady s) (nat_lt s.count s.sizes.objects) (with_object s b var) s
     (λ f id bound some. (bound, refl)) (λ f id bound some. (bound, refl))
-BoundSteady-row s b (Link (Global g) var) h k beside = λ f id bound some. (bound, refl)
-BoundSteady-row s b (Link (Ref object n) var) h k beside = λ f id bound some. (bound, refl)
-BoundSteady-row s b (Take p) h k beside =
+BoundSteady-row s b (Link (Global g) var) h k during = λ f id bound some. (bound, refl)
+BoundSteady-row s b (Link (Ref object n) var) h k during = λ f id bound some. (bound, refl)
+BoundSteady-row s b (Take p) h k during =
     with_taken_either (BoundSteady s) s b p (least_free s p) (λ f id bound some. (bound, refl)) (λ i f id bound some. (bound, refl))
-BoundSteady-row s b (Below start) h k beside =
+BoundSteady-row s b (Below start) h k during =
     with_taken_either (BoundSteady s) s b External (free_below s start)
     (λ f id bound some. (bound, refl)) (λ i f id bound some. (bound, refl))
-BoundSteady-row s b (Bind f w) h k beside =
+BoundSteady-row s b (Bind f w) h k during =
     if_by (BoundSteady s) (s.words f == 0) (with_bound s b f w) (with_unbound s b f w)
     (λ free. BoundSteady-bind s b f w h (By_variable b k.0.0 (object_of f) k.0.2) (eqb-true (s.words f) 0 free)) (λ taken g id bound some. (bound, refl))
-BoundSteady-row s b (Forge number w) h k beside = BoundSteady-forged s number w
-BoundSteady-row s b (Start policy) h k beside = absurd beside
-BoundSteady-row s b Finish h k beside = absurd beside
-BoundSteady-row s b _ h k beside = λ f id bound some. (bound, refl)
+BoundSteady-row s b (Forge number w) h k during = BoundSteady-forged s number w
+BoundSteady-row s b (Start policy) h k during = absurd during
+BoundSteady-row s b Finish h k during = absurd during
+BoundSteady-row s b _ h k during = λ f id bound some. (bound, refl)
 
 -- the objects and the puts so far
 abbrev pub CountsSteady : Table → Table → Type 0
@@ -131,18 +131,18 @@ CountsSteady-object s b var = (omega arith, omega arith)
 pub CountsSteady-put : (s : Table) (b : ℕ) (p : Space) (i tag value : ℕ) → CountsSteady s (with_cell s b p i tag value)
 CountsSteady-put s b p i tag value = (omega arith, omega arith)
 
-pub CountsSteady-row : (s : Table) (b : ℕ) (a : Act) → IsBeside a → CountsSteady s (row s b a).next
-CountsSteady-row s b (New var) beside =
+pub CountsSteady-row : (s : Table) (b : ℕ) (a : Act) → IsDuringPhase a → CountsSteady s (row s b a).next
+CountsSteady-row s b (New var) during =
     if_either (CountsSteady s) (nat_lt s.count s.sizes.objects) (with_object s b var) s (CountsSteady-object s b var) (CountsSteady-same s)
-CountsSteady-row s b (Link (Global g) var) beside = CountsSteady-same s
-CountsSteady-row s b (Link (Ref object k) var) beside = CountsSteady-same s
-CountsSteady-row s b (Take p) beside =
+CountsSteady-row s b (Link (Global g) var) during = CountsSteady-same s
+CountsSteady-row s b (Link (Ref object k) var) during = CountsSteady-same s
+CountsSteady-row s b (Take p) during =
     with_taken_either (CountsSteady s) s b p (least_free s p) (CountsSteady-same s) (λ i. CountsSteady-same s)
-CountsSteady-row s b (Below start) beside =
+CountsSteady-row s b (Below start) during =
     with_taken_either (CountsSteady s) s b External (free_below s start) (CountsSteady-same s) (λ i. CountsSteady-same s)
-CountsSteady-row s b (Put p i tag value) beside = CountsSteady-put s b p i tag value
-CountsSteady-row s b (Bind f w) beside =
+CountsSteady-row s b (Put p i tag value) during = CountsSteady-put s b p i tag value
+CountsSteady-row s b (Bind f w) during =
     if_either (CountsSteady s) (s.words f == 0) (with_bound s b f w) (with_unbound s b f w) (CountsSteady-same s) (CountsSteady-same s)
-CountsSteady-row s b (Start policy) beside = absurd beside
-CountsSteady-row s b Finish beside = absurd beside
-CountsSteady-row s b _ beside = CountsSteady-same s
+CountsSteady-row s b (Start policy) during = absurd during
+CountsSteady-row s b Finish during = absurd during
+CountsSteady-row s b _ during = CountsSteady-same s

@@ -20,7 +20,7 @@ use Rattle.plain_table.specs.Finish.{id_at}
 use Rattle.plain_table.specs.Rows.{row, IsPlaced, IsSafe, IsFreshBind, IsSharedBind, free_below, with_object, with_bound, with_unbound, with_forged}
 use Rattle.plain_table.specs.History.{IsLegal}
 use Rattle.plain_table.specs.Sound.{IsSound, MarksSound, CycleSound}
-use Rattle.table_laws.specs.Steady.{IsBeside, CellsSteady, CycleSteady, CyclesSteady, SafeSteady}
+use Rattle.table_laws.specs.Steady.{IsDuringPhase, CellsSteady, CycleSteady, CyclesSteady, SafeSteady}
 use Rattle.plain_table.proofs.PlaceReads.{read_field}
 use Rattle.plain_table.proofs.Options.{IfSome-is}
 use Rattle.plain_table.proofs.CycleParts.{CycleSound-is}
@@ -134,34 +134,34 @@ said-taken false word said e h ok = absurd (cc)
 
 -- an act that is no bind, behind which bound fields have their words of before
 pub SafeSteady-still : (s : Table) (b : ℕ) (a : Act) (said : Reply) → IsSound s → IsLegal s (record { by = b; act = a; said = said }) →
-    IsBeside a → WordsStay s (row s b a).next → ((f : Field) (w : ℕ) → a ≡ Bind f w → ⊥) →
+    IsDuringPhase a → WordsStay s (row s b a).next → ((f : Field) (w : ℕ) → a ≡ Bind f w → ⊥) →
     SafeSteady s (record { by = b; act = a; said = said }) (row s b a).next
-SafeSteady-still s b a said h k beside words none =
-    SafeSteady-words s (record { by = b; act = a; said = said }) (row s b a).next (CellsSteady-row s b a said h k beside)
-    (CyclesSteady-row s b a said h k beside) words (λ f w same ok. none f w same)
+SafeSteady-still s b a said h k during words none =
+    SafeSteady-words s (record { by = b; act = a; said = said }) (row s b a).next (CellsSteady-row s b a said h k during)
+    (CyclesSteady-row s b a said h k during) words (λ f w same ok. none f w same)
 
-pub SafeSteady-row : (s : Table) (b : ℕ) (a : Act) (said : Reply) → IsSound s → IsLegal s (record { by = b; act = a; said = said }) → IsBeside a →
+pub SafeSteady-row : (s : Table) (b : ℕ) (a : Act) (said : Reply) → IsSound s → IsLegal s (record { by = b; act = a; said = said }) → IsDuringPhase a →
     SafeSteady s (record { by = b; act = a; said = said }) (row s b a).next
-SafeSteady-row s b (Bind f w) said h k beside =
+SafeSteady-row s b (Bind f w) said h k during =
     if_by (SafeSteady s (record { by = b; act = Bind f w; said = said })) (s.words f == 0) (with_bound s b f w) (with_unbound s b f w)
     (λ free. SafeSteady-bind s b f w said h k.0.2 (CellsSteady-same _ _ _ refl) (CyclesSteady-changed s.cycle (CycleSteady-word f w)))
     (λ taken. SafeSteady-words s (record { by = b; act = Bind f w; said = said }) (with_unbound s b f w) (CellsSteady-same _ _ _ refl)
     (CyclesSteady-same s.cycle) (λ g id bound. refl) (λ g v same ok. said-taken (s.words f == 0) (s.words f) said taken k.1 ok))
-SafeSteady-row s b (New var) said h k beside = SafeSteady-still s b (New var) said h k beside
+SafeSteady-row s b (New var) said h k during = SafeSteady-still s b (New var) said h k during
     (if_either (WordsStay s) (nat_lt s.count s.sizes.objects) (with_object s b var) s (λ f id bound. refl) (λ f id bound. refl))
     (λ f w same. absurd (cc))
-SafeSteady-row s b (Link (Global g) var) said h k beside =
-    SafeSteady-still s b (Link (Global g) var) said h k beside (λ f id bound. refl) (λ f w same. absurd (cc))
-SafeSteady-row s b (Link (Ref object n) var) said h k beside =
-    SafeSteady-still s b (Link (Ref object n) var) said h k beside (λ f id bound. refl) (λ f w same. absurd (cc))
-SafeSteady-row s b (Take p) said h k beside = SafeSteady-still s b (Take p) said h k beside
+SafeSteady-row s b (Link (Global g) var) said h k during =
+    SafeSteady-still s b (Link (Global g) var) said h k during (λ f id bound. refl) (λ f w same. absurd (cc))
+SafeSteady-row s b (Link (Ref object n) var) said h k during =
+    SafeSteady-still s b (Link (Ref object n) var) said h k during (λ f id bound. refl) (λ f w same. absurd (cc))
+SafeSteady-row s b (Take p) said h k during = SafeSteady-still s b (Take p) said h k during
     (with_taken_either (WordsStay s) s b p (least_free s p) (λ f id bound. refl) (λ i f id bound. refl)) (λ f w same. absurd (cc))
-SafeSteady-row s b (Below start) said h k beside = SafeSteady-still s b (Below start) said h k beside
+SafeSteady-row s b (Below start) said h k during = SafeSteady-still s b (Below start) said h k during
     (with_taken_either (WordsStay s) s b External (free_below s start) (λ f id bound. refl) (λ i f id bound. refl))
     (λ f w same. absurd (cc))
-SafeSteady-row s b (Forge number v) said h k beside =
-    SafeSteady-still s b (Forge number v) said h k beside (WordsStay-forged s number v) (λ f w same. absurd (cc))
-SafeSteady-row s b Finish said h k beside = absurd beside
-SafeSteady-row s b (Start policy) said h k beside = absurd beside
+SafeSteady-row s b (Forge number v) said h k during =
+    SafeSteady-still s b (Forge number v) said h k during (WordsStay-forged s number v) (λ f w same. absurd (cc))
+SafeSteady-row s b Finish said h k during = absurd during
+SafeSteady-row s b (Start policy) said h k during = absurd during
 -- all others leave words and bindings alone
-SafeSteady-row s b a said h k beside = SafeSteady-still s b a said h k beside (λ f id bound. refl) (λ f w same. absurd (cc))
+SafeSteady-row s b a said h k during = SafeSteady-still s b a said h k during (λ f id bound. refl) (λ f w same. absurd (cc))

@@ -22,7 +22,7 @@ use Rattle.plain_table.specs.Holders.{IsLiveHolder}
 use Rattle.plain_table.specs.Rows.{row, is_asked, seen_under, object_in, free_below, with_object, with_bound, with_unbound}
 use Rattle.plain_table.specs.History.{IsLegalHistory, next, after}
 use Rattle.plain_table.specs.Sound.{IdsSound, IsSound}
-use Rattle.table_laws.specs.Stored.{Stored, store_at, stored_next, stored_behind, nothing_stored}
+use Rattle.table_laws.specs.Stored.{Stored, store_at, stored_next, stored_after, nothing_stored}
 use Rattle.plain_table.specs.Openings.{OpeningsAreSound}
 use Rattle.table_laws.specs.Laws.{EventsKeepSoundness, HoldersReadTheirOwn, ValuesWereStored}
 use Rattle.plain_table.proofs.PlaceReads.{read_entry, put_at-same, put_at-other}
@@ -66,10 +66,10 @@ CellsStored-value cells stored top i value None is ids h q j c e =
     ]
 CellsStored-value cells stored top i value (Some d) is ids h q j c e =
     let pair : ℕ × ℕ → ℕ × ℕ = λ old. (old.0, value) in
-    let behind : Stored = put_at stored d.id (option_map pair (stored d.id)) in
+    let past : Stored = put_at stored d.id (option_map pair (stored d.id)) in
     elim (read_entry (Some (record d { value = value })) cells External i q j) [
       | inl r ↦
-          IsSomeAnd-is (Some (record d { value = value })) (HasStored behind) c (sym r.1 ∙ e)
+          IsSomeAnd-is (Some (record d { value = value })) (HasStored past) c (sym r.1 ∙ e)
           (put_at-same stored d.id (option_map pair (stored d.id)) ∙ ap (option_map pair) (h External i d is))
       | inr r ↦
           put_at-other stored d.id c.id (option_map pair (stored d.id))
@@ -163,23 +163,23 @@ look_stored stored false (Some c) first last value h said =
 
 module _ (keeps : EventsKeepSoundness) where
   pub CellsStored-after : (es : List Event) (s : Table) (stored : Stored) → IsSound s → IsLegalHistory s es → CellsStored s.cells stored →
-      CellsStored (after s es).cells (stored_behind s es stored)
+      CellsStored (after s es).cells (stored_after s es stored)
   CellsStored-after [] s stored sound legal h = h
   CellsStored-after (e ∷ es) s stored sound legal h =
       CellsStored-after es (next s e) (stored_next s e.act stored) (keeps s e sound legal.0) legal.1 (CellsStored-row s e.by e.act stored sound h)
 
   module _ (opens : OpeningsAreSound) where
-    CellsStored-behind : (limits : Limits) (es : List Event) → IsInRange limits → IsLegalHistory (opening limits) es →
-        CellsStored (after (opening limits) es).cells (stored_behind (opening limits) es nothing_stored)
-    CellsStored-behind limits es range legal =
+    CellsStored-past : (limits : Limits) (es : List Event) → IsInRange limits → IsLegalHistory (opening limits) es →
+        CellsStored (after (opening limits) es).cells (stored_after (opening limits) es nothing_stored)
+    CellsStored-past limits es range legal =
         CellsStored-after es (opening limits) nothing_stored (opens limits range) legal (λ p i c is. absurd (cc))
 
     pub holders-own : HoldersReadTheirOwn
     holders-own limits es f id range legal holder =
-        IsLiveHolder-own (after (opening limits) es) (stored_behind (opening limits) es nothing_stored) f id
-        (histories-sound keeps opens limits es range legal) (CellsStored-behind limits es range legal) holder
+        IsLiveHolder-own (after (opening limits) es) (stored_after (opening limits) es nothing_stored) f id
+        (histories-sound keeps opens limits es range legal) (CellsStored-past limits es range legal) holder
 
     pub values-stored : ValuesWereStored
     values-stored limits es p w first last value b range legal look =
-        look_stored (stored_behind (opening limits) es nothing_stored) (index_of w == 0) ((after (opening limits) es).cells p (index_of w)) first last value
-        (CellsStored-behind limits es range legal p (index_of w)) look.1
+        look_stored (stored_after (opening limits) es nothing_stored) (index_of w == 0) ((after (opening limits) es).cells p (index_of w)) first last value
+        (CellsStored-past limits es range legal p (index_of w)) look.1

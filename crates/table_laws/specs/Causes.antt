@@ -11,7 +11,7 @@ use Rattle.plain_table.specs.Index.{index_of}
 use Rattle.plain_table.specs.Table.{Table}
 use Rattle.plain_table.specs.Rows.{InCycle, IsNamed}
 use Rattle.plain_table.specs.History.{after}
-use Rattle.table_laws.specs.Steady.{IsBeside}
+use Rattle.table_laws.specs.Steady.{IsDuringPhase}
 
 -- the act writes the cell at an index
 abbrev pub Writes : Act → Space → ℕ → Type 0
@@ -22,9 +22,9 @@ Writes (Publish j) p i = (p ≡ Trusted) × (j ≡ i)
 Writes _ p i = ⊥
 
 -- each event stands beside the mutators' ones: the history neither starts nor finishes a cycle
-abbrev pub AreBeside : List Event → Type 0
-AreBeside [] = Unit {0}
-AreBeside (e ∷ es) = IsBeside e.act × AreBeside es
+abbrev pub AreDuringPhase : List Event → Type 0
+AreDuringPhase [] = Unit {0}
+AreDuringPhase (e ∷ es) = IsDuringPhase e.act × AreDuringPhase es
 
 -- some event of the history writes the cell at an index
 abbrev pub IsWrittenIn : List Event → Space → ℕ → Type 0

@@ -25,9 +25,9 @@ use Rattle.plain_table.specs.Belongs.{Belongs, Part}
 use Rattle.plain_table.specs.Holders.{IsLiveHolder}
 use Rattle.plain_table.specs.History.{IsLegal, IsLegalHistory, next, after}
 use Rattle.plain_table.specs.Sound.{IsSound}
-use Rattle.table_laws.specs.Steady.{IsBeside, IsSteady}
-use Rattle.table_laws.specs.Stored.{stored_behind, nothing_stored}
-use Rattle.table_laws.specs.Causes.{AreBeside, HasCause}
+use Rattle.table_laws.specs.Steady.{IsDuringPhase, IsSteady}
+use Rattle.table_laws.specs.Stored.{stored_after, nothing_stored}
+use Rattle.table_laws.specs.Causes.{AreDuringPhase, HasCause}
 
 -- soundness is kept: behind each legal event of any sound table stands a sound table
 abbrev pub EventsKeepSoundness : Type 0
@@ -40,7 +40,7 @@ HistoriesAreSound =
 
 -- steadiness: an event beside others leaves theirs alone
 abbrev pub EventsAreSteady : Type 0
-EventsAreSteady = (s : Table) (e : Event) → IsSound s → IsLegal s e → IsBeside e.act → IsSteady s e (next s e)
+EventsAreSteady = (s : Table) (e : Event) → IsSound s → IsLegal s e → IsDuringPhase e.act → IsSteady s e (next s e)
 
 -- own resource: the cell at a live holder's word is its own, with the tag of its put and the value last stored in it
 abbrev pub HoldersReadTheirOwn : Type 0
@@ -48,7 +48,7 @@ HoldersReadTheirOwn =
     (limits : Limits) (es : List Event) (f : Field) (id : ℕ) → IsInRange limits → IsLegalHistory (opening limits) es →
     IsLiveHolder (after (opening limits) es) f id →
     IsSomeAnd ((after (opening limits) es).cells (space_of f) (index_of ((after (opening limits) es).words f))) (λ c.
-    (c.id ≡ id) × IsTrue c.shown × (stored_behind (opening limits) es nothing_stored id ≡ Some (c.tag, c.value)))
+    (c.id ≡ id) × IsTrue c.shown × (stored_after (opening limits) es nothing_stored id ≡ Some (c.tag, c.value)))
 
 -- a live holder stays one, until its object can't be reached any more or its field is forged
 abbrev pub HoldersStayLive : Type 0
@@ -69,7 +69,7 @@ HoldersKeepTheirIndex =
 abbrev pub FinishesArePrecise : Type 0
 FinishesArePrecise =
     (s : Table) (policy : Policy) (es : List Event) (p : Space) (i : ℕ) →
-    IsLegalHistory (started s policy) es → AreBeside es →
+    IsLegalHistory (started s policy) es → AreDuringPhase es →
     (c : Cycle) → (after (started s policy) es).cycle ≡ Some c →
     IsSome (place c (after (started s policy) es).words p i) → HasCause (started s policy) es p i
 
@@ -124,7 +124,7 @@ ValuesWereStored =
     (limits : Limits) (es : List Event) (p : Space) (w first last value b : ℕ) → IsInRange limits → IsLegalHistory (opening limits) es →
     IsLegal (after (opening limits) es) (record { by = b; act = Look p w first last; said = reply.Value value }) →
     (id : ℕ) × (tag : ℕ) × (id_at (after (opening limits) es) p (index_of w) ≡ Some id)
-    × (stored_behind (opening limits) es nothing_stored id ≡ Some (tag, value)) × IsTrue (is_asked first last tag)
+    × (stored_after (opening limits) es nothing_stored id ≡ Some (tag, value)) × IsTrue (is_asked first last tag)
 
 -- versions agree: whether an outcome belongs to a script does not depend on the script's version
 abbrev pub VersionsAgree : Type 0

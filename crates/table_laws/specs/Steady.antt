@@ -16,10 +16,10 @@ use Rattle.plain_table.specs.Table.{Table}
 use Rattle.plain_table.specs.Rows.{InCycle, IsSafe, object_in}
 
 -- an event beside others: neither the start nor the finish of a cycle
-abbrev pub IsBeside : Act → Type 0
-IsBeside (Start policy) = ⊥
-IsBeside Finish = ⊥
-IsBeside _ = Unit {0}
+abbrev pub IsDuringPhase : Act → Type 0
+IsDuringPhase (Start policy) = ⊥
+IsDuringPhase Finish = ⊥
+IsDuringPhase _ = Unit {0}
 
 -- cells: each stays at its index with its id and tag, a trusted one with its value; only a put makes one, only a publish
 -- shows one, and in a cycle one that changes or is made is marked

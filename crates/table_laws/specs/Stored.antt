@@ -29,9 +29,9 @@ stored_next s (Swap word first last value) stored = store_at stored (id_at s Ext
 stored_next s _ stored = stored
 
 -- what was stored behind a history that begins at the table s
-abbrev pub stored_behind : Table → List Event → Stored → Stored
-stored_behind s [] stored = stored
-stored_behind s (e ∷ es) stored = stored_behind (next s e) es (stored_next s e.act stored)
+abbrev pub stored_after : Table → List Event → Stored → Stored
+stored_after s [] stored = stored
+stored_after s (e ∷ es) stored = stored_after (next s e) es (stored_next s e.act stored)
 
 -- nothing is stored at first
 abbrev pub nothing_stored : Stored

@@ -17,16 +17,16 @@ use Rattle.plain_table.specs.Cycle.{Cycle, is_from, is_in_area}
 use Rattle.plain_table.specs.Table.{Table}
 use Rattle.plain_table.specs.History.{IsLegal, IsLegalHistory, after, next}
 use Rattle.plain_table.specs.Shapes.{Held, IsEmptyCall, IsInit, IsLoad, IsShape, IsShare, IsStore, IsSwap, IsTNew, IsTPub, WithObject, WithTarget, abort_before, event, external_field, mark_before}
-use Rattle.table_laws.specs.Steady.{IsBeside}
+use Rattle.table_laws.specs.Steady.{IsDuringPhase}
 use Rattle.mutator_calls.proofs.Kept.{HasSameStart}
 use Rattle.table_run.specs.Run.{puts_by, puts_in}
 
-abbrev AreBeside : List Event → Type 0
-AreBeside es = AllByRecursion (λ (e : Event). IsBeside e.act) es
+abbrev AreDuringPhase : List Event → Type 0
+AreDuringPhase es = AllByRecursion (λ (e : Event). IsDuringPhase e.act) es
 
 -- no event starts or finishes a cycle, and so many put an external cell
 abbrev Puts : ℕ → List Event → Type 0
-Puts n es = AreBeside es × (puts_in es ≡ n)
+Puts n es = AreDuringPhase es × (puts_in es ≡ n)
 
 by_object : (held : Held) (var : ℕ) (said : Reply) (es : List Event) (Shape : ℕ → Type 0) → ((o : ℕ) → Shape o → Puts 0 es) →
     WithObject held var said es Shape → Puts 0 es
@@ -117,8 +117,8 @@ init_call s b cycle held var f tag value said es legal shape = by (held var) sha
     by None empty = subst (λ r. Puts (puts_by (op.Init var f tag value) r) es) (sym empty.0) (subst (Puts 0) (sym empty.1) (tt, refl))
     by (Some o) there = init_events s b cycle (external_field o f) var f tag value said es legal there
 
-one : (es : List Event) (e : Event) → IsBeside e.act → puts_in (e ∷ []) ≡ 0 → es ≡ e ∷ [] → Puts 0 es
-one es e beside none is = subst (Puts 0) (sym is) ((beside, tt), none)
+one : (es : List Event) (e : Event) → IsDuringPhase e.act → puts_in (e ∷ []) ≡ 0 → es ≡ e ∷ [] → Puts 0 es
+one es e during none is = subst (Puts 0) (sym is) ((during, tt), none)
 
 -- one row a call
 pub IsShape-tells : (s : Table) (b : ℕ) (cycle : Option Cycle) (held : Held) (ticket : Option ℕ) (call : Op) (said : Reply) (es : List Event) →

@@ -11,7 +11,7 @@ use Rattle.plain_table.specs.Table.{Table}
 use Rattle.plain_table.specs.Words.{phase_place, phase_word}
 use Rattle.plain_table.specs.History.{after, next}
 use Rattle.plain_table.specs.Shapes.{Held, IsShape, OwnTicket, held_after, own_after, with_ticket}
-use Rattle.plain_table.specs.Sweeps.{linked_behind, linked_next}
+use Rattle.plain_table.specs.Sweeps.{linked_after, linked_next}
 use Rattle.plain_table.specs.Belongs.{is_external_put}
 use Rattle.plain_table.proofs.CallsMade.{after-append, IsLegalHistory-append, held_after-append, own_after-append, MakesCalls-push}
 use Rattle.entry_word.specs.Image.{image_of}
@@ -28,10 +28,10 @@ each_both : (P : Event → Type 0) (es fs : List Event) → AllByRecursion P es 
 each_both P [] fs first second = second
 each_both P (e ∷ es) fs first second = (first.0, each_both P es fs first.1 second)
 
-pub linked_behind-append : (s : Table) (linked : List ℕ) (es fs : List Event) →
-    linked_behind s linked (es ++ fs) ≡ linked_behind (after s es) (linked_behind s linked es) fs
-linked_behind-append s linked [] fs = refl
-linked_behind-append s linked (e ∷ es) fs = linked_behind-append (next s e) (linked_next s e.by e.act linked) es fs
+pub linked_after-append : (s : Table) (linked : List ℕ) (es fs : List Event) →
+    linked_after s linked (es ++ fs) ≡ linked_after (after s es) (linked_after s linked es) fs
+linked_after-append s linked [] fs = refl
+linked_after-append s linked (e ∷ es) fs = linked_after-append (next s e) (linked_next s e.by e.act linked) es fs
 
 -- no event, and events after events
 leads_nowhere : (m : Mutator) (s : Table) → Sees (image_of m.image) s → LeadsOn m m s []
@@ -44,9 +44,9 @@ leads_further old mid new s es fs first second =
     record {
       legal = IsLegalHistory-append s es fs first.legal second.legal;
       sees = subst (Sees (image_of new.image)) (sym t) second.sees;
-      handed = λ linked handed. subst (HandsOver new (linked_behind s linked (es ++ fs))) (sym t)
-          (subst (λ ls. HandsOver new ls (after (after s es) fs)) (sym (linked_behind-append s linked es fs))
-          (second.handed (linked_behind s linked es) (first.handed linked handed)));
+      handed = λ linked handed. subst (HandsOver new (linked_after s linked (es ++ fs))) (sym t)
+          (subst (λ ls. HandsOver new ls (after (after s es) fs)) (sym (linked_after-append s linked es fs))
+          (second.handed (linked_after s linked es) (first.handed linked handed)));
     }
 
 pub plays_nothing : (m : Mutator) → PlaysEach m m [] [] 0
@@ -55,7 +55,7 @@ plays_nothing m s sees = record {
   leads = leads_nowhere m s sees;
   made = refl;
   alone = tt;
-  beside = tt;
+  during = tt;
   held = refl;
   own = refl;
   puts = refl;
@@ -66,7 +66,7 @@ module _ (old mid new : Mutator) (calls : List Op) (replies : List Reply) (puts 
   -- the shape of the call at the cycle of the first one
   shape_here : IsShape 0 s.cycle (held_after (s.vars 0) before.events) (own_after (with_ticket (s.ticket 0)) before.events).ticket call said makes.events
   shape_here =
-      IsShape-same 0 (after s before.events).cycle s.cycle (same_start-after before.events s h.sound before.leads.legal before.beside) _ _ call said makes.events
+      IsShape-same 0 (after s before.events).cycle s.cycle (same_start-after before.events s h.sound before.leads.legal before.during) _ _ call said makes.events
       (subst (λ (own : OwnTicket). IsShape 0 (after s before.events).cycle (held_after (s.vars 0) before.events) own.ticket call said makes.events) (sym before.own)
       (subst (λ (held : Held). IsShape 0 (after s before.events).cycle held ((after s before.events).ticket 0) call said makes.events) (sym before.held) makes.shape))
 
@@ -80,7 +80,7 @@ module _ (old mid new : Mutator) (calls : List Op) (replies : List Reply) (puts 
             (record { legal = makes.legal; sees = makes.sees; handed = makes.handed });
         made = MakesCalls-push 0 s.cycle (s.vars 0) (with_ticket (s.ticket 0)) calls replies before.events call said makes.events before.made shape_here;
         alone = each_both (λ (e : Event). e.by ≡ 0) before.events makes.events before.alone makes.own;
-        beside = each_both _ before.events makes.events before.beside tells.0;
+        during = each_both _ before.events makes.events before.during tells.0;
         held = held_after-append (s.vars 0) before.events makes.events ∙ ap (λ (held : Held). held_after held makes.events) before.held
             ∙ makes.held ∙ sym (ap (λ (u : Table). u.vars 0) t);
         own = own_after-append (with_ticket (s.ticket 0)) before.events makes.events
@@ -109,5 +109,5 @@ pub phase_word-played : (old new : Mutator) (calls : List Op) (replies : List Re
 phase_word-played old new calls replies puts ready plays =
     let s = ready.lawful.0 in
     let played = plays s (record { sound = ready.lawful.1; shows = ready.lawful.2; covered = ready.lawful.3 }) in
-    let same = same_start-after played.events s ready.lawful.1 played.leads.legal played.beside in
+    let same = same_start-after played.events s ready.lawful.1 played.leads.legal played.during in
     played.leads.sees.shows.words.phase ∙ phase_word-same s.cycle (after s played.events).cycle same ∙ sym ready.lawful.2.words.phase

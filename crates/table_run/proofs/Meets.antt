@@ -21,7 +21,7 @@ use Rattle.plain_table.specs.Words.{phase_place}
 use Rattle.plain_table.specs.History.{after, next}
 use Rattle.plain_table.specs.Scans.{Scanner, Makes, Scans, Ends, Others, Turn, Make, Marks, Takes, Fills, Fails, Aborts, Says}
 use Rattle.plain_table.specs.Shapes.{event}
-use Rattle.plain_table.specs.Sweeps.{IsSweep, MeetBelongs, meeting, linked_behind}
+use Rattle.plain_table.specs.Sweeps.{IsSweep, MeetBelongs, meeting, linked_after}
 use Rattle.plain_table.specs.Belongs.{is_external_put}
 use Rattle.plain_table.proofs.CallsMade.{after-append}
 use Rattle.word_laws.proofs.PhaseReads.{cycle-none, cycle-some}
@@ -96,5 +96,5 @@ meets_to_finish old new meet sweep is fits finishes s linked sees handed =
       belongs = subst (λ (m : Meet). MeetBelongs linked s m events (report.Swept sweep)) (sym is) (at.scans, refl, at.pause, at.reported);
       quiet = puts_in-append at.scans (event meeting Finish Ok ∷ []) ∙ ap (λ n. n + 0) quiet;
       sees = at.sees;
-      handed = HandsOver-none new (linked_behind s linked events) (after s events) none;
+      handed = HandsOver-none new (linked_after s linked events) (after s events) none;
     }

@@ -11,15 +11,15 @@ use Rattle.plain_table.specs.declared.reports.PhaseReport.{PhaseReport}
 use Rattle.plain_table.specs.Table.{Table}
 use Rattle.plain_table.specs.History.{after, next}
 use Rattle.plain_table.specs.Shapes.{MakesCalls, with_ticket}
-use Rattle.plain_table.specs.Scans.{Ends, IsReadBeside, Others, Rest, Scans}
-use Rattle.plain_table.specs.Sweeps.{linked_behind}
+use Rattle.plain_table.specs.Scans.{Ends, IsReadConcurrently, Others, Rest, Scans}
+use Rattle.plain_table.specs.Sweeps.{linked_after}
 use Rattle.plain_table.specs.Belongs.{IsMarker, Part, PhaseBelongs, events_by}
 use Rattle.plain_table.proofs.CallsMade.{after-append, IsLegalHistory-append}
 use Rattle.entry_word.specs.Image.{image_of}
 use Rattle.mutator_calls.specs.declared.heap.Mutator.{Mutator}
 use Rattle.mutator_calls.specs.Calls.{HandsOver, Sees}
 use Rattle.table_run.specs.Run.{HasMet, HasPlayed, HasRun, MeetsEach, PlaysEach, RunsEach}
-use Rattle.table_run.proofs.CallRuns.{linked_behind-append, puts_in-append}
+use Rattle.table_run.proofs.CallRuns.{linked_after-append, puts_in-append}
 
 abbrev IsOwn : Event → Type 0
 IsOwn e = e.by ≡ 0
@@ -40,7 +40,7 @@ numbers-own limits some (e ∷ es) own (suc k) d within = numbers-own limits som
 
 -- and a marker makes none, so it scans nothing
 scans-own : (b : ℕ) → 8 ≤ b → (s : Table) (es : List Event) → AllByRecursion IsOwn es →
-    Scans (λ t o. Unit {0}) IsReadBeside b Rest s es Rest
+    Scans (λ t o. Unit {0}) IsReadConcurrently b Rest s es Rest
 scans-own b high s [] own = Ends Rest s
 scans-own b high s (e ∷ es) own =
     Others Rest s e es Rest (λ same. let by : e.by ≡ 0 = own.0 in omega (arith, same)) (scans-own b high (next s e) es own.1)
@@ -55,9 +55,9 @@ calls_made limits s calls replies es one own made b below =
 
 module _ (limits : Limits) (one : limits.mutators ≡ 1) (none : limits.markers ≡ 0) (phase : Phase) (calls : List Op) (lists : phase.calls ≡ calls ∷ [])
     (report : PhaseReport) (replies : List Reply) (said : report.replies ≡ replies ∷ []) (old mid new : Mutator) (puts : ℕ) (s : Table) (linked : List ℕ)
-    (played : HasPlayed old mid calls replies puts s) (met : HasMet mid new phase.meet report.meet (after s played.events) (linked_behind s linked played.events)) where
+    (played : HasPlayed old mid calls replies puts s) (met : HasMet mid new phase.meet report.meet (after s played.events) (linked_after s linked played.events)) where
   abbrev part : Part
-  part = record { beside = played.events; meet = met.events }
+  part = record { during = played.events; meet = met.events }
 
   phase_belongs : (begins : Bool) → PhaseBelongs limits begins linked s phase part report
   phase_belongs begins = record {
@@ -82,8 +82,8 @@ module _ (limits : Limits) (one : limits.mutators ≡ 1) (none : limits.markers 
         belongs = phase_belongs;
         puts = played.puts ∙ omega (arith, puts_in-append played.events met.events, met.quiet);
         sees = subst (Sees (image_of new.image)) (sym t) met.sees;
-        handed = subst (HandsOver new (linked_behind s linked (played.events ++ met.events))) (sym t)
-            (subst (λ ls. HandsOver new ls (after (after s played.events) met.events)) (sym (linked_behind-append s linked played.events met.events)) met.handed);
+        handed = subst (HandsOver new (linked_after s linked (played.events ++ met.events))) (sym t)
+            (subst (λ ls. HandsOver new ls (after (after s played.events) met.events)) (sym (linked_after-append s linked played.events met.events)) met.handed);
       }
 
 pub runs_phase : (old mid new : Mutator) (phase : Phase) (calls : List Op) (report : PhaseReport) (replies : List Reply) (puts : ℕ) →
@@ -92,4 +92,4 @@ pub runs_phase : (old mid new : Mutator) (phase : Phase) (calls : List Op) (repo
 runs_phase old mid new phase calls report replies puts lists said plays meets limits s linked one none sees handed =
     let played = plays s sees in
     has_run limits one none phase calls lists report replies said old mid new puts s linked played
-    (meets (after s played.events) (linked_behind s linked played.events) played.leads.sees (played.leads.handed linked handed))
+    (meets (after s played.events) (linked_after s linked played.events) played.leads.sees (played.leads.handed linked handed))

@@ -9,7 +9,7 @@ use Rattle.plain_table.specs.declared.reports.Outcome.{Outcome}
 use Rattle.plain_table.specs.declared.reports.PhaseReport.{PhaseReport}
 use Rattle.plain_table.specs.Table.{Table, opening}
 use Rattle.plain_table.specs.History.{IsLegalHistory, after}
-use Rattle.plain_table.specs.Sweeps.{linked_behind}
+use Rattle.plain_table.specs.Sweeps.{linked_after}
 use Rattle.plain_table.specs.Belongs.{Part, PhaseBelongs, PhasesBelong, events_of, is_start, whole}
 use Rattle.plain_table.specs.Ranges.{IsInRange}
 use Rattle.plain_table.proofs.OpeningSound.{IsSound-opening}
@@ -20,7 +20,7 @@ use Rattle.mutator_calls.specs.declared.heap.Mutator.{Mutator}
 use Rattle.mutator_calls.specs.Calls.{HandsOver, Sees}
 use Rattle.mutator_calls.specs.Totals.{IsTotal}
 use Rattle.table_run.specs.Run.{Answers, HaveRun, RunsEach, puts_in}
-use Rattle.table_run.proofs.CallRuns.{linked_behind-append, puts_in-append}
+use Rattle.table_run.proofs.CallRuns.{linked_after-append, puts_in-append}
 
 append_none : (es : List Event) → es ++ [] ≡ es
 append_none [] = refl
@@ -33,15 +33,15 @@ whole-push (first ∷ parts) part =
 
 PhasesBelong-push : (limits : Limits) (begins : Bool) (linked : List ℕ) (s : Table) (phases : List Phase) (parts : List Part) (reports : List PhaseReport)
     (phase : Phase) (part : Part) (report : PhaseReport) → PhasesBelong limits begins linked s phases parts reports →
-    ((starts : Bool) → PhaseBelongs limits starts (linked_behind s linked (whole parts)) (after s (whole parts)) phase part report) →
+    ((starts : Bool) → PhaseBelongs limits starts (linked_after s linked (whole parts)) (after s (whole parts)) phase part report) →
     PhasesBelong limits begins linked s (phases ++ phase ∷ []) (parts ++ part ∷ []) (reports ++ report ∷ [])
 PhasesBelong-push limits begins linked s [] [] [] phase part report belong last = (last begins, tt)
 PhasesBelong-push limits begins linked s (p ∷ phases) (q ∷ parts) (r ∷ reports) phase part report belong last = (
   belong.0,
-  PhasesBelong-push limits (is_start p.meet) (linked_behind s linked (events_of q)) (after s (events_of q)) phases parts reports phase part report belong.1
-      (λ starts. subst (λ (t : Table). PhaseBelongs limits starts (linked_behind (after s (events_of q)) (linked_behind s linked (events_of q)) (whole parts)) t phase part report)
+  PhasesBelong-push limits (is_start p.meet) (linked_after s linked (events_of q)) (after s (events_of q)) phases parts reports phase part report belong.1
+      (λ starts. subst (λ (t : Table). PhaseBelongs limits starts (linked_after (after s (events_of q)) (linked_after s linked (events_of q)) (whole parts)) t phase part report)
       (after-append s (events_of q) (whole parts))
-      (subst (λ (ls : List ℕ). PhaseBelongs limits starts ls (after s (events_of q ++ whole parts)) phase part report) (linked_behind-append s linked (events_of q) (whole parts)) (last starts))),
+      (subst (λ (ls : List ℕ). PhaseBelongs limits starts ls (after s (events_of q ++ whole parts)) phase part report) (linked_after-append s linked (events_of q) (whole parts)) (last starts))),
 )
 PhasesBelong-push limits begins linked s [] [] (r ∷ reports) phase part report belong last = absurd belong
 PhasesBelong-push limits begins linked s [] (q ∷ parts) reports phase part report belong last = absurd belong
@@ -56,7 +56,7 @@ pub runs_more : (limits : Limits) (old new : Mutator) (phases : List Phase) (rep
     HaveRun limits new (phases ++ phase ∷ []) (reports ++ report ∷ []) (puts + more)
 runs_more limits old new phases reports puts phase report more one none before runs =
     let s = after (opening limits) (whole before.parts) in
-    let linked = linked_behind (opening limits) [] (whole before.parts) in
+    let linked = linked_after (opening limits) [] (whole before.parts) in
     let run = runs limits s linked one none before.sees before.handed in
     let all : whole (before.parts ++ run.part ∷ []) ≡ whole before.parts ++ events_of run.part = whole-push before.parts run.part in
     let t : after (opening limits) (whole (before.parts ++ run.part ∷ [])) ≡ after s (events_of run.part) =
@@ -68,9 +68,9 @@ runs_more limits old new phases reports puts phase report more one none before r
       puts = ap (λ n. n + more) before.puts ∙ ap (λ n. puts_in (whole before.parts) + n) run.puts
           ∙ sym (puts_in-append (whole before.parts) (events_of run.part)) ∙ ap puts_in (sym all);
       sees = subst (Sees (image_of new.image)) (sym t) run.sees;
-      handed = subst (HandsOver new (linked_behind (opening limits) [] (whole (before.parts ++ run.part ∷ [])))) (sym t)
+      handed = subst (HandsOver new (linked_after (opening limits) [] (whole (before.parts ++ run.part ∷ [])))) (sym t)
           (subst (λ (ls : List ℕ). HandsOver new ls (after s (events_of run.part)))
-          (sym (ap (linked_behind (opening limits) []) all ∙ linked_behind-append (opening limits) [] (whole before.parts) (events_of run.part))) run.handed);
+          (sym (ap (linked_after (opening limits) []) all ∙ linked_after-append (opening limits) [] (whole before.parts) (events_of run.part))) run.handed);
     }
 
 -- at the turn of one phase

@@ -15,7 +15,7 @@ use Rattle.plain_table.specs.declared.scripts.Phase.{Phase}
 use Rattle.plain_table.specs.declared.scripts.Script.{Script}
 use Rattle.plain_table.specs.Ranges.{IsInRange}
 use Rattle.script_reader.specs.Lines.{most_operations}
-use Rattle.script_reader.specs.Valid.{IsValidLimits, IsValidOp, IsValidPhase, IsValidScript, lists_length, meet_behind, meets_behind, operations_of}
+use Rattle.script_reader.specs.Valid.{IsValidLimits, IsValidOp, IsValidPhase, IsValidScript, lists_length, meet_after, meets_after, operations_of}
 use Rattle.script_reader.proofs.Upgrading.{op-upgraded}
 use Rattle.table_run.specs.CanRun.{IsMeetAt, IsOneList, can_run, word_after, words_after}
 
@@ -76,7 +76,7 @@ each_list script valid can k d within =
 abbrev word_in : Bool → ℕ
 word_in cycle = if cycle then 1 else 0
 
-one_meet : (cycle : Bool) (meet : Meet) (later : Bool → Option Bool) → option_and_then later (meet_behind cycle meet) ≡ Some false →
+one_meet : (cycle : Bool) (meet : Meet) (later : Bool → Option Bool) → option_and_then later (meet_after cycle meet) ≡ Some false →
     (next : Bool) × (later next ≡ Some false) × IsMeetAt (word_in cycle) meet × (word_after (word_in cycle) meet ≡ word_in next)
 one_meet true Plain later is = (true, is, tt, refl)
 one_meet false Plain later is = (false, is, tt, refl)
@@ -87,15 +87,15 @@ one_meet false Finish later is = absurd (cc)
 one_meet true End later is = absurd (cc)
 one_meet false End later is = absurd (cc)
 
-meets_fit : (cycle : Bool) (phases : List Phase) (last : Phase) → last.meet ≡ End → meets_behind cycle phases ≡ Some false →
+meets_fit : (cycle : Bool) (phases : List Phase) (last : Phase) → last.meet ≡ End → meets_after cycle phases ≡ Some false →
     (k : ℕ) (d : Phase) → k < length (phases ++ last ∷ []) →
     IsMeetAt (words_after (word_in cycle) (take k (phases ++ last ∷ []))) (get_or (phases ++ last ∷ []) k d).meet
-meets_fit cycle [] last ends behind zero d within = subst (IsMeetAt (word_in cycle)) (sym ends) tt
-meets_fit cycle [] last ends behind (suc k) d within = absurd (omega arith)
-meets_fit cycle (phase ∷ phases) last ends behind zero d within =
-    (one_meet cycle phase.meet (λ next. meets_behind next phases) behind).2
-meets_fit cycle (phase ∷ phases) last ends behind (suc k) d within =
-    let here = one_meet cycle phase.meet (λ next. meets_behind next phases) behind in
+meets_fit cycle [] last ends onward zero d within = subst (IsMeetAt (word_in cycle)) (sym ends) tt
+meets_fit cycle [] last ends onward (suc k) d within = absurd (omega arith)
+meets_fit cycle (phase ∷ phases) last ends onward zero d within =
+    (one_meet cycle phase.meet (λ next. meets_after next phases) onward).2
+meets_fit cycle (phase ∷ phases) last ends onward (suc k) d within =
+    let here = one_meet cycle phase.meet (λ next. meets_after next phases) onward in
     subst (λ (word : ℕ). IsMeetAt (words_after word (take k (phases ++ last ∷ []))) (get_or (phases ++ last ∷ []) k d).meet) (sym here.3)
     (meets_fit here.0 phases last ends here.1 k d (omega arith))
 

@@ -18,9 +18,9 @@ use Rattle.plain_table.specs.declared.reports.Reply.TheVariants as reply
 use Rattle.plain_table.specs.Table.{Table, opening}
 use Rattle.plain_table.specs.History.{IsLegalHistory, after}
 use Rattle.plain_table.specs.Shapes.{MakesCalls, held_after, own_after, with_ticket}
-use Rattle.plain_table.specs.Sweeps.{MeetBelongs, linked_behind}
+use Rattle.plain_table.specs.Sweeps.{MeetBelongs, linked_after}
 use Rattle.plain_table.specs.Belongs.{Belongs, Part, PhaseBelongs, PhasesBelong, events_of, is_external_put, whole}
-use Rattle.table_laws.specs.Steady.{IsBeside}
+use Rattle.table_laws.specs.Steady.{IsDuringPhase}
 use Rattle.entry_word.specs.Image.{image_of}
 use Rattle.mutator_calls.specs.declared.heap.Mutator.{Mutator}
 use Rattle.mutator_calls.specs.Calls.{HandsOver, Sees}
@@ -39,7 +39,7 @@ puts_in events = count_by (λ (e : Event). is_external_put e.act) events
 pub record LeadsOn (old new : Mutator) (s : Table) (events : List Event) : Type 0 where
   pub legal : IsLegalHistory s events
   pub sees : Sees (image_of new.image) (after s events)
-  pub handed : (linked : List ℕ) → HandsOver old linked s → HandsOver new (linked_behind s linked events) (after s events)
+  pub handed : (linked : List ℕ) → HandsOver old linked s → HandsOver new (linked_after s linked events) (after s events)
 
 -- mutator 0 made these calls in turn, and put so many external cells
 pub record HasPlayed (old new : Mutator) (calls : List Op) (replies : List Reply) (many : ℕ) (s : Table) : Type 0 where
@@ -47,7 +47,7 @@ pub record HasPlayed (old new : Mutator) (calls : List Op) (replies : List Reply
   pub leads : LeadsOn old new s events
   pub made : MakesCalls 0 s.cycle (s.vars 0) (with_ticket (s.ticket 0)) calls replies events
   pub alone : AllByRecursion (λ (e : Event). e.by ≡ 0) events
-  pub beside : AllByRecursion (λ (e : Event). IsBeside e.act) events
+  pub during : AllByRecursion (λ (e : Event). IsDuringPhase e.act) events
   pub held : held_after (s.vars 0) events ≡ (after s events).vars 0
   pub own : own_after (with_ticket (s.ticket 0)) events ≡ with_ticket ((after s events).ticket 0)
   pub puts : many ≡ puts_in events
@@ -62,7 +62,7 @@ pub record HasMet (old new : Mutator) (meet : Meet) (report : MeetReport) (s : T
   pub belongs : MeetBelongs linked s meet events report
   pub quiet : puts_in events ≡ 0
   pub sees : Sees (image_of new.image) (after s events)
-  pub handed : HandsOver new (linked_behind s linked events) (after s events)
+  pub handed : HandsOver new (linked_after s linked events) (after s events)
 
 abbrev pub MeetsEach : Mutator → Mutator → Meet → MeetReport → Type 0
 MeetsEach old new meet report =
@@ -75,7 +75,7 @@ pub record HasRun (limits : Limits) (old new : Mutator) (phase : Phase) (report 
   pub belongs : (begins : Bool) → PhaseBelongs limits begins linked s phase part report
   pub puts : many ≡ puts_in (events_of part)
   pub sees : Sees (image_of new.image) (after s (events_of part))
-  pub handed : HandsOver new (linked_behind s linked (events_of part)) (after s (events_of part))
+  pub handed : HandsOver new (linked_after s linked (events_of part)) (after s (events_of part))
 
 abbrev pub RunsEach : Mutator → Mutator → Phase → PhaseReport → ℕ → Type 0
 RunsEach old new phase report puts =
@@ -89,7 +89,7 @@ pub record HaveRun (limits : Limits) (now : Mutator) (phases : List Phase) (repo
   pub belong : PhasesBelong limits false [] (opening limits) phases parts reports
   pub puts : many ≡ puts_in (whole parts)
   pub sees : Sees (image_of now.image) (after (opening limits) (whole parts))
-  pub handed : HandsOver now (linked_behind (opening limits) [] (whole parts)) (after (opening limits) (whole parts))
+  pub handed : HandsOver now (linked_after (opening limits) [] (whole parts)) (after (opening limits) (whole parts))
 
 -- the outcome belongs to the script by some history
 abbrev pub Answers : Script → Outcome → Type 0

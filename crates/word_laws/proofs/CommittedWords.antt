@@ -96,11 +96,11 @@ module _ (words committed : List ℕ) (s : Table) (p : Space) (head : ℕ) (soun
     where
       by_case : (found : Option ℕ) → least_from (s.used p) 1 (end - 1) ≡ found → (end ≡ head) × ((j : ℕ) → j < end → IsTrue (s.used p j))
       by_case None found =
-          let told = list-none (s.used p) (limit_of s p) end (slice_index words (freelist_place p)) space.list space.within few (sound.first p) found in
-          (omega (arith, told.2, empty, below, few), told.1)
+          let known = list-none (s.used p) (limit_of s p) end (slice_index words (freelist_place p)) space.list space.within few (sound.first p) found in
+          (omega (arith, known.2, empty, below, few), known.1)
       by_case (Some k) found =
-          let told = list-some (s.used p) (limit_of s p) end (slice_index words (freelist_place p)) space.list space.within few k found in
-          absurd (told.2 (omega (arith, told.1, empty, below, few)))
+          let known = list-some (s.used p) (limit_of s p) end (slice_index words (freelist_place p)) space.list space.within few k found in
+          absurd (known.2 (omega (arith, known.1, empty, below, few)))
 
   own : SpaceShownBy words s p
   own = Shows-space words s p shows

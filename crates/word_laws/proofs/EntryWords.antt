@@ -20,7 +20,7 @@ pub record EntryTells (w : ℕ) (cell : Option Cell) (entry : Option ℕ) (IsMar
   pub occupied : cell ≡ None → entry ≡ None → ⊥
 
 -- at all other indexes cells, entries and marks are as they were
-pub record AreBeside (p : Space) (i : ℕ) (cells cells_new : Space → ℕ → Option Cell) (evac evac_new : Space → ℕ → Option ℕ) (IsMark IsMark_new : Space → ℕ → Bool → Type 0) : Type 0 where
+pub record AreDuringPhase (p : Space) (i : ℕ) (cells cells_new : Space → ℕ → Option Cell) (evac evac_new : Space → ℕ → Option ℕ) (IsMark IsMark_new : Space → ℕ → Bool → Type 0) : Type 0 where
   pub filled : (q : Space) (j : ℕ) → ((p ≡ q) × (i ≡ j) → ⊥) → cells_new q j ≡ cells q j
   pub evacuated : (q : Space) (j : ℕ) → ((p ≡ q) × (i ≡ j) → ⊥) → evac_new q j ≡ evac q j
   pub marked : (q : Space) (j : ℕ) (m : Bool) → ((p ≡ q) × (i ≡ j) → ⊥) → IsMark q j m → IsMark_new q j m
@@ -34,9 +34,9 @@ index_cases p q i j = elim (same_space-tells p q) [
 module _ {words changed : List ℕ} {sizes : Sizes} (p : Space) (i w : ℕ) (h : Changed words changed (entry_place sizes p i) w) where
   SpacesShown-entry : {used : Space → ℕ → Bool} {cells cells_new : Space → ℕ → Option Cell} {evac evac_new : Space → ℕ → Option ℕ} {IsMark IsMark_new : Space → ℕ → Bool → Type 0} →
       AreWithin sizes used cells evac → IsTrue (used p i) → i ≢ 0 → EntryTells w (cells_new p i) (evac_new p i) (IsMark_new p i) →
-      AreBeside p i cells cells_new evac evac_new IsMark IsMark_new →
+      AreDuringPhase p i cells cells_new evac evac_new IsMark IsMark_new →
       SpacesShown words sizes used cells evac IsMark → SpacesShown changed sizes used cells_new evac_new IsMark_new
-  SpacesShown-entry {used} {cells} {cells_new} {evac} {evac_new} {IsMark} {IsMark_new} inside taken later tells beside old = record {
+  SpacesShown-entry {used} {cells} {cells_new} {evac} {evac_new} {IsMark} {IsMark_new} inside taken later tells during old = record {
     spaces = λ q. ((old.spaces q).0, space q (old.spaces q).0 (old.spaces q).1);
   }
     where
@@ -59,14 +59,14 @@ module _ {words changed : List ℕ} {sizes : Sizes} (p : Space) (i w : ℕ) (h :
               let found = tells.filled c (subst₂ (λ r k. cells_new r k ≡ Some c) (sym same.0) (sym same.1) stands) in
               (found.0, here q j same ∙ found.1, subst₂ (λ r k. IsMark_new r k found.0) same.0 same.1 found.2)
           | inr apart ↦
-              let was : cells q j ≡ Some c = sym (beside.filled q j apart) ∙ stands in
+              let was : cells q j ≡ Some c = sym (during.filled q j apart) ∙ stands in
               let found = is.filled j c was in
-              (found.0, there q j (inside.below q j (inside.filled q j c was).0) apart ∙ found.1, beside.marked q j found.0 apart found.2)
+              (found.0, there q j (inside.below q j (inside.filled q j c was).0) apart ∙ found.1, during.marked q j found.0 apart found.2)
         ];
         evacuated = λ j number stands. elim (index_cases p q i j) [
           | inl same ↦ here q j same ∙ tells.evacuated number (subst₂ (λ r k. evac_new r k ≡ Some number) (sym same.0) (sym same.1) stands)
           | inr apart ↦
-              let was : evac q j ≡ Some number = sym (beside.evacuated q j apart) ∙ stands in
+              let was : evac q j ≡ Some number = sym (during.evacuated q j apart) ∙ stands in
               there q j (inside.below q j (inside.entries q j number was).0) apart ∙ is.evacuated j number was
         ];
         free = λ j from below free.
@@ -79,8 +79,8 @@ module _ {words changed : List ℕ} {sizes : Sizes} (p : Space) (i w : ℕ) (h :
               let found = is.empty j (record {
                 taken = stands.taken;
                 later = stands.later;
-                no_cell = sym (beside.filled q j apart) ∙ stands.no_cell;
-                no_entry = sym (beside.evacuated q j apart) ∙ stands.no_entry;
+                no_cell = sym (during.filled q j apart) ∙ stands.no_cell;
+                no_entry = sym (during.evacuated q j apart) ∙ stands.no_entry;
               }) in
               (found.0, found.1, there q j (inside.below q j stands.taken) apart ∙ found.2)
         ];
@@ -97,12 +97,12 @@ module _ {words changed : List ℕ} {sizes : Sizes} (p : Space) (i w : ℕ) (h :
 
   pub Shown-entry : {count area phase : ℕ} {globals : ℕ → Option ℕ} {IsHead : ℕ → ℕ → Type 0} {refs : ℕ → ℕ → Option ℕ} {names : Field → ℕ} {used : Space → ℕ → Bool} {cells cells_new : Space → ℕ → Option Cell} {evac evac_new : Space → ℕ → Option ℕ} {IsMark IsMark_new : Space → ℕ → Bool → Type 0} →
       AreWithin sizes used cells evac → IsTrue (used p i) → i ≢ 0 → EntryTells w (cells_new p i) (evac_new p i) (IsMark_new p i) →
-      AreBeside p i cells cells_new evac evac_new IsMark IsMark_new →
+      AreDuringPhase p i cells cells_new evac evac_new IsMark IsMark_new →
       Shown words sizes count area phase globals IsHead refs names used cells evac IsMark →
       Shown changed sizes count area phase globals IsHead refs names used cells_new evac_new IsMark_new
-  Shown-entry inside taken later tells beside shown = record {
+  Shown-entry inside taken later tells during shown = record {
     whole = h.long ∙ shown.whole;
     low = LowShown-kept h (omega (arith, entry_place-from sizes p i)) shown.low;
     heap = HeapShown-kept h (inr (entry_place-from sizes p i)) shown.heap;
-    entries = SpacesShown-entry inside taken later tells beside shown.entries;
+    entries = SpacesShown-entry inside taken later tells during shown.entries;
   }

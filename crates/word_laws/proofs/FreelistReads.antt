@@ -77,29 +77,29 @@ module _ (s : Table) (p : Space) (entry : ℕ → ℕ) (word committed : ℕ) (f
     (is : SpaceIs s.sizes.seg (limit_of s p) (s.used p) (s.cells p) (entry_at s p) (IsMarkIn s.cycle p) entry word committed) where
   FreelistTells-by : (found : Option ℕ) → least_from (s.used p) 1 (committed - 1) ≡ found → FreelistTells s p entry (word % 2 ^ 32) (word / 2 ^ 32) committed
   FreelistTells-by None found =
-      let told = list-none (s.used p) (limit_of s p) committed word is.list is.within few first found in
+      let known = list-none (s.used p) (limit_of s p) committed word is.list is.within few first found in
       record {
         segments = is.segments;
         within = is.within;
         used = is.taken;
-        none = λ zero. told.1;
-        end = λ zero. told.2;
-        least = λ zero. least_free-committed (s.used p) (limit_of s p) committed (omega (arith, is.taken 0 first)) is.within told.1 is.taken;
-        some = λ more. absurd (more told.0);
+        none = λ zero. known.1;
+        end = λ zero. known.2;
+        least = λ zero. least_free-committed (s.used p) (limit_of s p) committed (omega (arith, is.taken 0 first)) is.within known.1 is.taken;
+        some = λ more. absurd (more known.0);
         links = is.free;
         closed = is.closed;
         room = segment-fits s.sizes p committed is.segments.0 is.segments.1;
       }
   FreelistTells-by (Some k) found =
-      let told = list-some (s.used p) (limit_of s p) committed word is.list is.within few k found in
+      let known = list-some (s.used p) (limit_of s p) committed word is.list is.within few k found in
       record {
         segments = is.segments;
         within = is.within;
         used = is.taken;
-        none = λ zero. absurd (told.2 (sym told.1 ∙ zero));
-        end = λ zero. absurd (told.2 (sym told.1 ∙ zero));
-        least = λ zero. absurd (told.2 (sym told.1 ∙ zero));
-        some = λ more. (told.4 ∙ ap Some (sym told.0), omega (arith, told.0, told.3));
+        none = λ zero. absurd (known.2 (sym known.1 ∙ zero));
+        end = λ zero. absurd (known.2 (sym known.1 ∙ zero));
+        least = λ zero. absurd (known.2 (sym known.1 ∙ zero));
+        some = λ more. (known.4 ∙ ap Some (sym known.0), omega (arith, known.0, known.3));
         links = is.free;
         closed = is.closed;
         room = segment-fits s.sizes p committed is.segments.0 is.segments.1;

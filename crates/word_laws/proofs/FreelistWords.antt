@@ -44,7 +44,7 @@ module _ {seg limit : ℕ} {used other : ℕ → Bool} {cells : ℕ → Option C
     free = λ k later under free.
         let apart : i ≢ k = not_same k free in
         let was : used k ≡ false = sym (same k apart) ∙ free in
-        reads k ∙ is.free k later under was ∙ ap free_word (ap (λ o. unwrap_or o committed) (sym (least_from-same used other (k + 1) (committed - (k + 1)) (λ m from. same m (behind k m later was from)))));
+        reads k ∙ is.free k later under was ∙ ap free_word (ap (λ o. unwrap_or o committed) (sym (least_from-same used other (k + 1) (committed - (k + 1)) (λ m from. same m (past k m later was from)))));
     empty = λ k stands. elim (eqb_tells i k) [
       | inl e ↦ (
         next_free used (i + 1) committed,
@@ -52,8 +52,8 @@ module _ {seg limit : ℕ} {used other : ℕ → Bool} {cells : ℕ → Option C
         reads k ∙ ap entry (sym e.1) ∙ is.free i some below free,
       )
       | inr e ↦
-          let told = is.empty k (record { taken = sym (same k e.1) ∙ stands.taken; later = stands.later; no_cell = stands.no_cell; no_entry = stands.no_entry }) in
-          (told.0, told.1, reads k ∙ told.2)
+          let known = is.empty k (record { taken = sym (same k e.1) ∙ stands.taken; later = stands.later; no_cell = stands.no_cell; no_entry = stands.no_entry }) in
+          (known.0, known.1, reads k ∙ known.2)
     ];
     closed = λ k past under. reads k ∙ is.closed k past under;
     list = list ∙ ap₂ freelist_word (link_next ∙ sym head) (sym shorter);
@@ -72,8 +72,8 @@ module _ {seg limit : ℕ} {used other : ℕ → Bool} {cells : ℕ → Option C
       not_same k is_free e = absurd (true≢false (sym now ∙ ap other e ∙ is_free))
 
       -- what is not used stands behind the head
-      behind : (k m : ℕ) → 1 ≤ k → used k ≡ false → k + 1 ≤ m → i ≢ m
-      behind k m later was from e = elim (cases_lt k i) [
+      past : (k m : ℕ) → 1 ≤ k → used k ≡ false → k + 1 ≤ m → i ≢ m
+      past k m later was from e = elim (cases_lt k i) [
         | inl less ↦ true≢false (sym (least_from-before used 1 (committed - 1) i found k later less) ∙ was)
         | inr more ↦ omega (arith, more, from, e)
       ]
@@ -180,13 +180,13 @@ module _ (words : List ℕ) (s : Table) (b : ℕ) (p : Space) (i link len : ℕ)
       Shows (slice_set words (freelist_place p) (freelist_word link len)) (with_taken s b p (Some i))
   Shows-take_by least shown None is changed =
       let space = (shown.entries.spaces p).1 in
-      let told = list-none (s.used p) (limit_of s p) (shown.entries.spaces p).0 (slice_index words (freelist_place p)) space.list space.within few first is in
-      absurd (omega (arith, told.0, long))
+      let known = list-none (s.used p) (limit_of s p) (shown.entries.spaces p).0 (slice_index words (freelist_place p)) space.list space.within few first is in
+      absurd (omega (arith, known.0, long))
   Shows-take_by least shown (Some k) is changed =
       let space = (shown.entries.spaces p).1 in
-      let told = list-some (s.used p) (limit_of s p) (shown.entries.spaces p).0 (slice_index words (freelist_place p)) space.list space.within few k is in
-      let same : k ≡ i = same_Some k i (sym told.4 ∙ least) in
-      Shows-ShownParts _ _ (Shown-taken p i link len changed few links shown (is ∙ ap Some same) (sym told.1 ∙ long))
+      let known = list-some (s.used p) (limit_of s p) (shown.entries.spaces p).0 (slice_index words (freelist_place p)) space.list space.within few k is in
+      let same : k ≡ i = same_Some k i (sym known.4 ∙ least) in
+      Shows-ShownParts _ _ (Shown-taken p i link len changed few links shown (is ∙ ap Some same) (sym known.1 ∙ long))
 
   Shows-take : Shows words s → (said : Reply) (none : Reply) (found : Option ℕ) → ((k : ℕ) → found ≡ Some k → least_free s p ≡ Some k) → none ≢ reply.Index i →
       said ≡ option_map_or reply.Index found none → said ≡ reply.Index i →

@@ -22,7 +22,7 @@ use Rattle.plain_table.specs.Table.{Table, opening}
 use Rattle.plain_table.specs.History.{IsLegalHistory, after}
 use Rattle.plain_table.specs.Shapes.{MakesCalls, event, with_ticket}
 use Rattle.plain_table.specs.Scans.{IsReadAtMeet, Rest}
-use Rattle.plain_table.specs.Sweeps.{IsDue, IsPause, MayScanAtMeet, MeetBelongs, linked_behind, meeting}
+use Rattle.plain_table.specs.Sweeps.{IsDue, IsPause, MayScanAtMeet, MeetBelongs, linked_after, meeting}
 use Rattle.plain_table.specs.Belongs.{Part, PhasesBelong, events_by, events_of, whole}
 use Rattle.plain_table.proofs.Options.{IsSome-value, IsSomeAnd-is, IsSomeAnd-some}
 use Rattle.worked_outcomes.specs.NotDue.{limits, linked, emptied, linking, emptying, ending}
@@ -124,11 +124,11 @@ emptied-none = All-from_recursion IsNoScan emptied (λ e. absurd (cc), tt)
 -- the last phase makes no event
 ending-none : (links : List ℕ) (s : Table) (phases : List Phase) (parts : List Part) (f : First limits false links s ending phases parts) → events_of f.part ≡ []
 ending-none links s phases parts f =
-    let mine = events-mine limits f.part.beside refl refl f.here.numbers in
-    let none : f.part.beside ≡ [] =
-    sym mine ∙ none-left s.cycle (s.vars 0) (with_ticket (s.ticket 0)) (slice_index_or f.report.replies 0 []) (events_by 0 f.part.beside) (f.here.calls 0 (omega arith)) in
+    let mine = events-mine limits f.part.during refl refl f.here.numbers in
+    let none : f.part.during ≡ [] =
+    sym mine ∙ none-left s.cycle (s.vars 0) (with_ticket (s.ticket 0)) (slice_index_or f.report.replies 0 []) (events_by 0 f.part.during) (f.here.calls 0 (omega arith)) in
     ap (λ (es : List Event). es ++ f.part.meet) none
-    ∙ end-events (linked_behind s links f.part.beside) (after s f.part.beside) f.part.meet f.report.meet f.here.meet
+    ∙ end-events (linked_after s links f.part.during) (after s f.part.during) f.part.meet f.report.meet f.here.meet
 
 -- from the second phase on
 scans-none-later : (parts : List Part) (reports : List PhaseReport) → PhasesBelong limits true [] at_start (emptying ∷ ending ∷ []) parts reports →
@@ -136,20 +136,20 @@ scans-none-later : (parts : List Part) (reports : List PhaseReport) → PhasesBe
 scans-none-later parts reports h legal =
     let f = first-phase limits true [] at_start emptying (ending ∷ []) parts reports h in
     let l = legal-parts at_start (events_of f.part) (whole f.parts_left) (subst (λ (ps : List Part). IsLegalHistory at_start (whole ps)) f.is legal) in
-    let mine = events-mine limits f.part.beside refl refl f.here.numbers in
-    let beside : f.part.beside ≡ emptied =
-    emptied-forced (slice_index_or f.report.replies 0 []) f.part.beside
+    let mine = events-mine limits f.part.during refl refl f.here.numbers in
+    let during : f.part.during ≡ emptied =
+    emptied-forced (slice_index_or f.report.replies 0 []) f.part.during
     (subst (MakesCalls 0 at_start.cycle (at_start.vars 0) (with_ticket (at_start.ticket 0)) (op.Link 0 0 None ∷ []) (slice_index_or f.report.replies 0 [])) mine
     (f.here.calls 0 (omega arith)))
-    (legal-parts at_start f.part.beside f.part.meet l.0).0 in
+    (legal-parts at_start f.part.during f.part.meet l.0).0 in
     let met : MeetBelongs [] pause meet.Finish f.part.meet f.report.meet =
-    subst (λ (es : List Event). MeetBelongs (linked_behind at_start [] es) (after at_start es) meet.Finish f.part.meet f.report.meet) beside f.here.meet in
+    subst (λ (es : List Event). MeetBelongs (linked_after at_start [] es) (after at_start es) meet.Finish f.part.meet f.report.meet) during f.here.meet in
     let here : All IsNoScan (events_of f.part) =
-    All-append IsNoScan f.part.beside f.part.meet (subst (All IsNoScan) (sym beside) emptied-none) (finish-events f.part.meet f.report.meet met) in
+    All-append IsNoScan f.part.during f.part.meet (subst (All IsNoScan) (sym during) emptied-none) (finish-events f.part.meet f.report.meet met) in
     let s = after at_start (events_of f.part) in
-    let linked_then = linked_behind at_start [] (events_of f.part) in
+    let linked_then = linked_after at_start [] (events_of f.part) in
     let g = first-phase limits false linked_then s ending [] f.parts_left f.reports_left f.later in
-    let none = no-phase limits false (linked_behind s linked_then (events_of g.part)) (after s (events_of g.part)) g.parts_left g.reports_left g.later in
+    let none = no-phase limits false (linked_after s linked_then (events_of g.part)) (after s (events_of g.part)) g.parts_left g.reports_left g.later in
     let last : whole f.parts_left ≡ [] =
     ap whole (g.is ∙ ap (λ (ps : List Part). g.part ∷ ps) none)
     ∙ ap (λ (es : List Event). es ++ []) (ending-none linked_then s [] f.parts_left g) in
@@ -161,18 +161,18 @@ scans-none : (parts : List Part) (reports : List PhaseReport) → PhasesBelong l
 scans-none parts reports h legal =
     let f = first-phase limits false [] (opening limits) linking (emptying ∷ ending ∷ []) parts reports h in
     let l = legal-parts (opening limits) (events_of f.part) (whole f.parts_left) (subst (λ (ps : List Part). IsLegalHistory (opening limits) (whole ps)) f.is legal) in
-    let mine = events-mine limits f.part.beside refl refl f.here.numbers in
-    let beside : f.part.beside ≡ linked =
-    linked-forced (slice_index_or f.report.replies 0 []) f.part.beside
+    let mine = events-mine limits f.part.during refl refl f.here.numbers in
+    let during : f.part.during ≡ linked =
+    linked-forced (slice_index_or f.report.replies 0 []) f.part.during
     (subst (MakesCalls 0 None ((opening limits).vars 0) (with_ticket None) (op.New 0 ∷ op.New 1 ∷ op.Link 0 0 (Some 1) ∷ op.Drop 1 ∷ []) (slice_index_or f.report.replies 0 [])) mine
     (f.here.calls 0 (omega arith)))
-    (legal-parts (opening limits) f.part.beside f.part.meet l.0).0 in
+    (legal-parts (opening limits) f.part.during f.part.meet l.0).0 in
     let is : events_of f.part ≡ first =
-    ap (λ (es : List Event). es ++ f.part.meet) beside
+    ap (λ (es : List Event). es ++ f.part.meet) during
     ∙ ap (λ (es : List Event). linked ++ es)
-    (start-events (linked_behind (opening limits) [] f.part.beside) (after (opening limits) f.part.beside) Never f.part.meet f.report.meet f.here.meet) in
+    (start-events (linked_after (opening limits) [] f.part.during) (after (opening limits) f.part.during) Never f.part.meet f.report.meet f.here.meet) in
     let later : PhasesBelong limits true [] at_start (emptying ∷ ending ∷ []) f.parts_left f.reports_left =
-    subst (λ (es : List Event). PhasesBelong limits true (linked_behind (opening limits) [] es) (after (opening limits) es) (emptying ∷ ending ∷ []) f.parts_left f.reports_left)
+    subst (λ (es : List Event). PhasesBelong limits true (linked_after (opening limits) [] es) (after (opening limits) es) (emptying ∷ ending ∷ []) f.parts_left f.reports_left)
     is f.later in
     subst (λ (ps : List Part). All IsNoScan (whole ps)) (sym f.is)
     (All-append IsNoScan (events_of f.part) (whole f.parts_left) (subst (All IsNoScan) (sym is) first-none)

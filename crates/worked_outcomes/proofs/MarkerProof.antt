@@ -10,7 +10,7 @@ use Rattle.plain_table.specs.Table.{Table, opening}
 use Rattle.plain_table.specs.Reachable.{By_variable}
 use Rattle.plain_table.specs.History.{IsLegalHistory, after}
 use Rattle.plain_table.specs.Shapes.{event, external_field}
-use Rattle.plain_table.specs.Scans.{IsReadBeside, Rest, Begins, Passes, Stays, Marks, Says, Scans, Ends, Others, Turn, Make}
+use Rattle.plain_table.specs.Scans.{IsReadConcurrently, Rest, Begins, Passes, Stays, Marks, Says, Scans, Ends, Others, Turn, Make}
 use Rattle.plain_table.specs.Sound.{IsSound}
 use Rattle.plain_table.specs.Belongs.{Belongs, HasTotals, IsScannedIn, whole, events_by}
 use Rattle.plain_table.proofs.CallsMade.{IsLegalHistory-append}
@@ -97,7 +97,7 @@ sound-start : IsSound at_start
 sound-start = IsSound-history limits (take 5 so_far) in_range (IsLegalHistory-take (opening limits) 5 so_far legal-so-far)
 
 -- the marker marks the cell of the first field, passes over the two others, and says that the object is scanned
-marker-scans : Scans (λ t o. Unit {0}) IsReadBeside 8 Rest at_start concurrent Rest
+marker-scans : Scans (λ t o. Unit {0}) IsReadConcurrently 8 Rest at_start concurrent Rest
 marker-scans =
     Others _ _ _ _ _ (λ e. absurd (omega (arith, e)))
     (Turn _ _ _ _ _ (Begins 0 (fields_of 0) tt (AreFieldsOf-three 0))

@@ -33,7 +33,7 @@ use Rattle.plain_table.specs.Rows.{finished_in}
 use Rattle.plain_table.specs.History.{IsLegalHistory, after}
 use Rattle.plain_table.specs.Shapes.{MakesCalls, event, with_ticket}
 use Rattle.plain_table.specs.Scans.{IsReadAtMeet, Rest}
-use Rattle.plain_table.specs.Sweeps.{IsSweep, MayScanAtMeet, MeetBelongs, compaction_by, linked_behind, meeting}
+use Rattle.plain_table.specs.Sweeps.{IsSweep, MayScanAtMeet, MeetBelongs, compaction_by, linked_after, meeting}
 use Rattle.plain_table.specs.Sound.{IsSound, CycleSound}
 use Rattle.plain_table.specs.Belongs.{Part, PhaseBelongs, events_of, whole}
 use Rattle.plain_table.proofs.CallsMade.{after-append}
@@ -203,10 +203,10 @@ record Quiet (linked : List ℕ) (s : Table) (m : Meet) (part : Part) (r : MeetR
 quiet-by : (begins : Bool) (linked : List ℕ) (s : Table) (m : Meet) (part : Part) (r : MeetReport) →
     PhaseBelongs limits begins linked s (record { calls = [] ∷ []; meet = m }) part (record { replies = [] ∷ []; meet = r }) → Quiet linked s m part r
 quiet-by begins linked s m part r h =
-    let none : part.beside ≡ [] = sym (events-mine limits part.beside refl refl h.numbers) ∙ h.calls 0 (omega arith) in
+    let none : part.during ≡ [] = sym (events-mine limits part.during refl refl h.numbers) ∙ h.calls 0 (omega arith) in
     record {
       is = ap (λ (es : List Event). es ++ part.meet) none;
-      met = subst (λ (es : List Event). MeetBelongs (linked_behind s linked es) (after s es) m part.meet r) none h.meet;
+      met = subst (λ (es : List Event). MeetBelongs (linked_after s linked es) (after s es) m part.meet r) none h.meet;
     }
 
 -- the table at the first pause
@@ -224,9 +224,9 @@ ready-filled : (part : Part) → IsLegalHistory (opening limits) (events_of part
     PhaseBelongs limits false [] (opening limits) (record { calls = filling ∷ []; meet = meet.Start Always }) part
     (record { replies = replies ∷ []; meet = report.Started (Some 4) }) → IsReady (after (opening limits) (events_of part))
 ready-filled part legal h =
-    let made : MakesCalls 0 None ((opening limits).vars 0) (with_ticket None) filling replies part.beside =
-    subst (MakesCalls 0 None ((opening limits).vars 0) (with_ticket None) filling replies) (events-mine limits part.beside refl refl h.numbers) (h.calls 0 (omega arith)) in
-    let same : part.beside ≡ filled = filled-forced part.beside made (legal-parts (opening limits) part.beside part.meet legal).0 in
+    let made : MakesCalls 0 None ((opening limits).vars 0) (with_ticket None) filling replies part.during =
+    subst (MakesCalls 0 None ((opening limits).vars 0) (with_ticket None) filling replies) (events-mine limits part.during refl refl h.numbers) (h.calls 0 (omega arith)) in
+    let same : part.during ≡ filled = filled-forced part.during made (legal-parts (opening limits) part.during part.meet legal).0 in
     subst (λ (es : List Event). IsReady (after (opening limits) (es ++ part.meet))) (sym same)
     (subst (λ (es : List Event). IsReady (after (opening limits) (filled ++ es))) (sym h.meet.0) ready-first)
 

@@ -9,7 +9,7 @@ use Rattle.plain_table.specs.declared.scripts.Limits.{Limits}
 use Rattle.plain_table.specs.declared.events.Event.{Event}
 use Rattle.plain_table.specs.Table.{Table}
 use Rattle.plain_table.specs.History.{next}
-use Rattle.plain_table.specs.Scans.{IsReadBeside, Rest, Scans, Ends, Others}
+use Rattle.plain_table.specs.Scans.{IsReadConcurrently, Rest, Scans, Ends, Others}
 use Rattle.plain_table.specs.Belongs.{IsMarker, events_by}
 
 -- the number is that of a mutator or of a marker
@@ -47,7 +47,7 @@ pub one-marker : (P : ℕ → Type 0) → P 8 → (b : ℕ) → (8 ≤ b) × (b 
 one-marker P here b is = let same : 8 ≡ b = omega (arith, is.0, is.1) in subst P same here
 
 -- a number that makes no event scans nothing
-pub scans-nothing : (b : ℕ) (s : Table) (es : List Event) → events_by b es ≡ [] → Scans (λ t o. Unit {0}) IsReadBeside b Rest s es Rest
+pub scans-nothing : (b : ℕ) (s : Table) (es : List Event) → events_by b es ≡ [] → Scans (λ t o. Unit {0}) IsReadConcurrently b Rest s es Rest
 scans-nothing b s [] none = Ends Rest s
 scans-nothing b s (e ∷ es) none = elim (eqb_tells e.by b) [
   | inl is ↦ absurd (let some : e ∷ events_by b es ≡ [] = sym (ap (λ (t : Bool). if t then e ∷ events_by b es else events_by b es) is.0) ∙ none in cc)

@@ -13,7 +13,7 @@ use Rattle.plain_table.specs.Table.{Table}
 use Rattle.plain_table.specs.Rows.{row}
 use Rattle.plain_table.specs.History.{IsLegalHistory, after}
 use Rattle.plain_table.specs.Shapes.{Held, OwnTicket, IsShape, MakesCalls, event, held_after, own_after}
-use Rattle.plain_table.specs.Sweeps.{linked_behind}
+use Rattle.plain_table.specs.Sweeps.{linked_after}
 use Rattle.plain_table.specs.Belongs.{Part, PhaseBelongs, PhasesBelong, events_of, is_start}
 
 -- what follows the events of the calls so far, with some replies
@@ -66,7 +66,7 @@ pub record First (limits : Limits) (begins : Bool) (linked : List ℕ) (s : Tabl
   pub reports_left : List PhaseReport
   pub is : parts ≡ part ∷ parts_left
   pub here : PhaseBelongs limits begins linked s phase part report
-  pub later : PhasesBelong limits (is_start phase.meet) (linked_behind s linked (events_of part)) (after s (events_of part)) phases parts_left reports_left
+  pub later : PhasesBelong limits (is_start phase.meet) (linked_after s linked (events_of part)) (after s (events_of part)) phases parts_left reports_left
 
 pub first-phase : (limits : Limits) (begins : Bool) (linked : List ℕ) (s : Table) (phase : Phase) (phases : List Phase) (parts : List Part)
     (reports : List PhaseReport) → PhasesBelong limits begins linked s (phase ∷ phases) parts reports → First limits begins linked s phase phases parts

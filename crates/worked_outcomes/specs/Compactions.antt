@@ -89,11 +89,11 @@ loaded =
 
 abbrev pub parts : List Part
 parts =
-    record { beside = filled; meet = started }
-    ∷ record { beside = []; meet = given_up ++ finish ∷ [] }
-    ∷ record { beside = []; meet = started }
-    ∷ record { beside = []; meet = evacuated ++ finish ∷ [] }
-    ∷ record { beside = loaded; meet = [] }
+    record { during = filled; meet = started }
+    ∷ record { during = []; meet = given_up ++ finish ∷ [] }
+    ∷ record { during = []; meet = started }
+    ∷ record { during = []; meet = evacuated ++ finish ∷ [] }
+    ∷ record { during = loaded; meet = [] }
     ∷ []
 
 -- the outcome, where the second sweep says that so many cells were moved

@@ -70,9 +70,9 @@ loaded =
 
 abbrev pub parts : List Part
 parts =
-    record { beside = before; meet = event meeting (Start Never) reply.Ok ∷ [] }
-    ∷ record { beside = concurrent; meet = event meeting Finish reply.Ok ∷ [] }
-    ∷ record { beside = loaded; meet = [] }
+    record { during = before; meet = event meeting (Start Never) reply.Ok ∷ [] }
+    ∷ record { during = concurrent; meet = event meeting Finish reply.Ok ∷ [] }
+    ∷ record { during = loaded; meet = [] }
     ∷ []
 
 abbrev pub outcome : Outcome

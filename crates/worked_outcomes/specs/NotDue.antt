@@ -58,9 +58,9 @@ more_scans = event meeting (Scan 0) reply.Ok ∷ event meeting (Scan 1) reply.Ok
 -- the history with these scans in the pause
 abbrev pub parts_scanning : List Event → List Part
 parts_scanning scans =
-    record { beside = linked; meet = event meeting (Start Never) reply.Ok ∷ [] }
-    ∷ record { beside = emptied; meet = scans ++ event meeting Finish reply.Ok ∷ [] }
-    ∷ record { beside = []; meet = [] }
+    record { during = linked; meet = event meeting (Start Never) reply.Ok ∷ [] }
+    ∷ record { during = emptied; meet = scans ++ event meeting Finish reply.Ok ∷ [] }
+    ∷ record { during = []; meet = [] }
     ∷ []
 
 abbrev pub outcome : Outcome

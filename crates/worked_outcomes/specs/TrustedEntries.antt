@@ -56,7 +56,7 @@ published =
 
 -- the history, where more events follow in its second part
 abbrev pub parts_with : List Event → List Part
-parts_with more = record { beside = made; meet = [] } ∷ record { beside = published ++ more; meet = [] } ∷ []
+parts_with more = record { during = made; meet = [] } ∷ record { during = published ++ more; meet = [] } ∷ []
 
 abbrev pub parts : List Part
 parts = parts_with []

@@ -42,9 +42,9 @@ returns-clause-seen c =
     let l = c.load.ensures in
     let was : c.join_seat.new.seat.me.0 ≡ both c.args.self.now.seat.me.0 c.args.other.seat.me.0 = ap (λ m. m.0) e.2 in
     let same : length c.args.self.now.seat.me.0.seen ≡ length c.args.other.seat.me.0.seen = let a = r.0.0.1.sized in let b = r.1.0.1.sized in omega arith in
-    let told : (i : ℕ) → StartsWith (list_at (both c.args.self.now.seat.me.0 c.args.other.seat.me.0).seen i) (list_at (both c.args.self.now.seat.me.0 c.args.other.seat.me.0).told i) = subst (λ (v : View). (i : ℕ) → StartsWith (list_at v.seen i) (list_at v.told i)) was l.2.1.told in
+    let common : (i : ℕ) → StartsWith (list_at (both c.args.self.now.seat.me.0 c.args.other.seat.me.0).seen i) (list_at (both c.args.self.now.seat.me.0 c.args.other.seat.me.0).common i) = subst (λ (v : View). (i : ℕ) → StartsWith (list_at v.seen i) (list_at v.common i)) was l.2.1.common in
     subst (λ (v : View). (i : ℕ) → StartsWith (list_at v.seen i) (list_at c.args.self.now.seat.me.0.seen i) × StartsWith (list_at v.seen i) (list_at c.args.other.seat.me.0.seen i)) (sym (l.2.0 ∙ was))
-    (begins_both c.args.self.now.seat.me.0 c.args.other.seat.me.0 same told)
+    (begins_both c.args.self.now.seat.me.0 c.args.other.seat.me.0 same common)
 
 pub returns-clause-known : goal.returns-clause-known
 returns-clause-known c = λ i weight.

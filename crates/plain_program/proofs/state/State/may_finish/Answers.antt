@@ -15,14 +15,14 @@ returns-after-are_scanned c =
     let s = shown c.args.self.now in
     let cycle = shown_cycle c.in-Some.cycle in
     let keys = c.in_ok-reached-in-Some.reached.keys in
-    let told = c.if-are_scanned.result in
+    let done = c.if-are_scanned.result in
     let under_way : s.cycle ≡ Some cycle = ap (λ (k : Kept). option_map shown_cycle k.cycle) (sym c.self.view_is) ∙ ap (option_map shown_cycle) c.in-Some.is in
     let reaches : (o : ℕ) → IsTrue (has keys o) ↔ IsReachable s o =
     subst (λ (k : Kept). (o : ℕ) → IsTrue (has keys o) ↔ IsReachable (shown k) o) c.self.view_is c.in_ok-reached-in-Some.ensures in
-    let finishes : IsTrue told ↔ CanFinish s cycle =
+    let finishes : IsTrue done ↔ CanFinish s cycle =
     elim c.if-are_scanned.branch [
-      | then-are_scanned w ↦ finishes-then s cycle keys reaches (c.are_scanned.ensures.0 w.if-are_scanned.true) told
+      | then-are_scanned w ↦ finishes-then s cycle keys reaches (c.are_scanned.ensures.0 w.if-are_scanned.true) done
           (subst (λ (b : Bool). IsTrue b ↔ ((f : Field) → IsFieldKept s cycle keys f)) (sym w.result-is) w.are_kept.ensures)
-      | else-are_scanned w ↦ finishes-else s cycle keys reaches told (cc) (λ scanned. let e : c.are_scanned.result ≡ true = c.are_scanned.ensures.1 scanned in absurd (cc))
+      | else-are_scanned w ↦ finishes-else s cycle keys reaches done (cc) (λ scanned. let e : c.are_scanned.result ≡ true = c.are_scanned.ensures.1 scanned in absurd (cc))
     ] in
-    finishes-in s cycle s.cycle told under_way finishes
+    finishes-in s cycle s.cycle done under_way finishes
