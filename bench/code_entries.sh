@@ -1,5 +1,5 @@
 #!/bin/sh
-# Times reads and writes of one code entry, on one thread and on four, beside the same steps in Rust.
+# Times reads and writes of one code entry, on one thread and on four, next to the same steps in Rust.
 # It proves and builds `code_times` in a copy of the crates: its files end in `.in` here, since the gate reads every file of
 # code and takes none outside of crates/. Nothing of this is part of the gate.
 top=$(dirname -- "$(readlink -f -- "$0")")/..

@@ -1,5 +1,5 @@
 #!/bin/sh
-# Times `eptrun` on large scripts, beside a plain C++ program of the same job (plain.cpp): bench/scripts.sh [EPTRUN]
+# Times `eptrun` on large scripts, next to a plain C++ program of the same job (plain.cpp): bench/scripts.sh [EPTRUN]
 # It takes the program that ./gate kept, or another that is named. For each kind of script and number of operations it prints
 # a row: milliseconds of `check` in eptrun and in C++, and their ratio, the same of `run`, and the most memory of `run` in
 # eptrun and in C++. A time is the least processor time of 15 runs of the whole process. Both programs must write the same

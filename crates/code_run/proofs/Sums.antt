@@ -60,7 +60,7 @@ module _ {A : Type 0} where
   each_of_none P f is [] none = tt
   each_of_none P f is (x ∷ xs) none = (is x (omega arith), each_of_none P f is xs (omega arith))
 
--- the pairs behind the first ones, counted and weighed by the pair
+-- the pairs after the first ones, counted and weighed by the pair
 from_count : (at seq : ℕ) (l : List Pair) → total (λ (_ : Store). 1) (stores_from at seq l) ≡ length l
 from_count at seq [] = refl
 from_count at seq (p ∷ ps) = let r = from_count at (seq + 2) ps in omega arith

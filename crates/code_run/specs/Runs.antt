@@ -49,7 +49,8 @@ pub record Ran (before : View) (n : ℕ) (r : CodeReport) (after : View) : Type 
   pub counts : Counts answers r
   -- what was shown of each entry has grown by exactly what these answers show
   pub shown : (i : ℕ) → list_at after.shown i ≡ list_at before.shown i ++ shown_in_run i answers
-  -- the stores are those of the writes that were done, each once behind the opening pairs; and each pair that was read stands in its list
+  -- the stores are those of the writes that were done, each once after the opening pairs; and each pair that was read
+  -- stands in its list
   pub own : after.own ≡ stores_of 0 answers.first ++ stores_of 1 answers.second
   pub whole : IsWhole after
   pub read : AllStandIn after answers.third × AllStandIn after answers.fourth

@@ -42,8 +42,8 @@ fn the_workers_of_a_run_meet(rt: HostRuntime) -> Result<(), Fail> {
     Ok(())
 }
 
-// Whether a reader met a writer within so many reads: it was told to read again, or saw a pair that
-// is not the opening one.
+// Whether a reader met a writer within so many reads: the answer was to read again, or it saw a pair
+// that is not the opening one.
 fn watch(table: &CodeTable, mut seat: CodeSeat, reads: u32) -> bool
     requires caller { IsOf table.now seat }
     requires entries { 0 < length (view seat).seen }

@@ -8,7 +8,7 @@ use Rattle.code_steps.specs.Steps.{LoadedSequence, Claimed, Released, Stored}
 use Rattle.code_steps.specs.Calls.{RiseFrom, Looked}
 use Rattle.code_steps.proofs.Prefixes.{grown_here, grown_twice}
 
--- what is known behind a load of the sequence
+-- what is known after a load of the sequence
 known_loaded : (v v1 : View) (at found : ℕ) → at < length v.shown → LoadedSequence v at found v1 → known_at v1 at ≡ known_at v at ++ found ∷ []
 known_loaded v v1 at found low t =
     ap (λ (earlier : List (List ℕ)). list_at earlier at ++ list_at v1.shown at) t.same.earlier

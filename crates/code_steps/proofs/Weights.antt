@@ -1,4 +1,4 @@
--- What the stores behind the opening pairs weigh.
+-- What the stores after the opening pairs weigh.
 use Rattle.std.proofs.Common.{◌≡◌, ℕ, zero, suc, ◌+◌, ◌*◌, ◌≤◌, ◌<◌, ◌==◌, nat_lt, Bool, true, false, if◌then◌else◌, List, [], ◌∷◌, ◌++◌, length, refl, ap, ◌∙◌, subst, arith, append-nil}
 use Rattle.std.proofs.lemmas.Bool.Decides.{nat_tests}
 use Rattle.code_steps.specs.declared.view.Store.{Store}
@@ -38,7 +38,7 @@ module _ (h : Store → ℕ) where
   in_has at start [] p rest n some is = absurd (omega arith)
   in_has at start (q ∷ l) p rest n some is = from_has at (start + 2) l p rest n (omega arith)
 
-  -- a pair behind the first in one list weighs no more than all
+  -- a pair after the first in one list weighs no more than all
   pub all_has : (at start : ℕ) (ls : List (List Pair)) (i : ℕ) (l : List Pair) (p : Pair) (rest : List Pair) (k n : ℕ) → i < length ls → list_at ls i ≡ l ++ p ∷ rest → 1 ≤ length l → k ≡ at + i → n ≡ start + 2 * length l
       → h (store_of k n p) ≤ total h (all_stores at start ls)
   all_has at start [] i l p rest k n low is some here seq = absurd (omega arith)

@@ -1,4 +1,4 @@
--- What a seat with all parts has seen, and what a view is told.
+-- What a seat with all parts has seen, and what a view learns.
 use Rattle.std.proofs.Common.{◌≡◌, ℕ, ◌<◌, false, List, [], ◌∷◌, ◌++◌, length, set, refl, sym, ap, ◌∙◌, arith, ext_get_or}
 use mathlib.Core.Option.{none, some}
 use lib.ListN.{get_elem?}

@@ -42,17 +42,17 @@ abbrev pub stores_from : ℕ → ℕ → List Pair → List Store
 stores_from at seq [] = []
 stores_from at seq (p ∷ ps) = store_of at seq p ∷ stores_from at (seq + 2) ps
 
--- the stores behind the opening pair
+-- the stores after the opening pair
 abbrev pub stores_in : ℕ → ℕ → List Pair → List Store
 stores_in at start [] = []
 stores_in at start (p ∷ ps) = stores_from at (start + 2) ps
 
--- the stores behind the opening pairs of these lists, which are those of entry `at` and the next ones
+-- the stores after the opening pairs of these lists, which are those of entry `at` and the next ones
 abbrev pub all_stores : ℕ → ℕ → List (List Pair) → List Store
 all_stores at start [] = []
 all_stores at start (l ∷ ls) = stores_in at start l ++ all_stores (suc at) start ls
 
--- the store x is that of a pair behind the opening one, which was seen
+-- the store x is that of a pair after the opening one, which was seen
 pub record IsSeenStore (start : ℕ) (lists seen : List (List Pair)) (x : Store) : Type 0 where
   pub place : ℕ
   pub seq : x.seq ≡ start + 2 * place

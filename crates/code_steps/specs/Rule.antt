@@ -57,7 +57,7 @@ pub record Kept (words : List ℕ) (views : List View) : Type 0 where
   pub size : length words ≡ 3 * length lists
   pub shows : (i : ℕ) → i < length lists → Shows start (list_at lists i) words i (total (holds_at i) views)
   pub parts : total (λ v. v.parts) views ≡ 16
-  -- each pair behind the first is an own store of exactly one seat, once
+  -- each pair after the first is an own store of exactly one seat, once
   pub stores : (weight : Store → ℕ) → total (λ v. total weight v.own) views ≡ total weight (all_stores 0 start lists)
   pub idle : (seat : ℕ) (v : View) → get_elem? views seat ≡ some v → v.parts ≡ 0 → v ≡ spent
   pub knows : (seat : ℕ) (v : View) → get_elem? views seat ≡ some v → 0 < v.parts → Knows start lists words v

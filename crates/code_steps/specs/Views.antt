@@ -64,7 +64,8 @@ spent = record { parts = 0; start = 0; seen = []; own = []; shown = []; earlier 
 abbrev pub OwnsSeen : View → Type 0
 OwnsSeen v = Each (IsSeenStore v.start v.seen v.seen) v.own
 
--- a seat with all parts: the stores behind the opening pairs are its own ones, each once, however they are weighed; and no step of its own showed more than the last pair's sequence
+-- a seat with all parts: the stores after the opening pairs are its own ones, each once, however they are weighed; and
+-- no step of its own showed more than the last pair's sequence
 pub record IsWhole (v : View) : Type 0 where
   pub stores : (weight : Store → ℕ) → total weight v.own ≡ total weight (all_stores 0 v.start v.seen)
   pub ends : (i : ℕ) → i < length v.seen → (p : Pair) × (seq : ℕ) × EndsWith v.start (list_at v.seen i) seq p × Each (λ n. n ≤ seq) (list_at v.shown i)

@@ -1,6 +1,6 @@
 //! Entries of two numbers, a code and an entry point, that threads read and write together with no
 //! lock. Each entry is a sequence lock with one claimer: a read gives a pair that one write stored,
-//! and a write puts its pair behind the others of its entry.
+//! and a write puts its pair after the others of its entry.
 //!
 //! `table.rt` has the table, `seat.rt` what a thread steps with, `calls.rt` `write` and `read`.
 //! `view.rt` has what a seat knows, and `plays.rt` the kinds of step, which are private: only `read`

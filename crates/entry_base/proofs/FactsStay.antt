@@ -1,5 +1,5 @@
--- Facts stay: no event beside the start and the finish of a cycle ends a fact of the table, and no change of words that
--- is steady ends one of the words.
+-- Facts stay: no event other than the start and the finish of a cycle ends a fact of the table, and no change of
+-- words that is steady ends one of the words.
 use Rattle.std.proofs.Common.{◌≡◌, ◌≢◌, ◌⊎◌, ℕ, ◌<◌, false, List, slice_index, Option, Some, None, IsTrue, IsSome, IsSomeAnd, IfSome, refl, sym, ap, ◌∙◌, subst, inl, inr, arith}
 use Rattle.std.proofs.lemmas.Bool.{cases_Bool}
 use Rattle.plain_table.specs.declared.events.Event.{Event}

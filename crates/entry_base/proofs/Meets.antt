@@ -1,4 +1,4 @@
--- The load behind a join.
+-- The load after a join.
 use Rattle.std.proofs.Common.{◌≡◌, ℕ, [], refl, arith, inl, inr}
 use Rattle.std.proofs.lemmas.Bool.{cases_lt}
 use mathlib.Core.Option.{none}

@@ -1,4 +1,4 @@
--- What views own stays behind the events of others, and behind own events that leave it alone.
+-- What views own stays after the events of others, and after own events that leave it alone.
 use Rattle.std.proofs.Common.{◌≡◌, ◌≢◌, Bool, true, false, if◌then◌else◌, List, [], ◌∷◌, inl, inr, ℕ, slice_index_or, Option, Some, None, IsTrue, IsSomeAnd, refl, sym, ap, ◌∙◌, subst, arith}
 use Rattle.plain_table.specs.declared.events.Event.{Event}
 use Rattle.plain_table.specs.declared.events.Cell.{Cell}

@@ -38,7 +38,7 @@ use Rattle.entry_base.proofs.Sums.{total_set, among, both_among, views_set, each
 use Rattle.entry_base.proofs.FactsStay.{WordsSteady, StaysLinked, fact_stays}
 use Rattle.entry_base.proofs.OwnsStay.{owns_other}
 
--- what a step may use of the table behind the history: it is sound, the words show it, and the stepping view knows it
+-- what a step may use of the table after the history: it is sound, the words show it, and the stepping view knows it
 pub record Given (key : Opening) (log : List Event) (shown words : List ℕ) (v : View) (s : Table) : Type 0 where
   pub sizes : s.sizes ≡ sizes_in key
   pub phase : phase_word s.cycle ≡ phase_of key
@@ -100,7 +100,7 @@ start_stays (Some c) (Some d) h = h.start
 start_stays None (Some d) h = absurd h
 start_stays (Some c) None h = absurd h
 
--- takes behind one more event
+-- takes after one more event
 takes_snoc : (p : Space) (es : List Event) (e : Event) → takes_in p (es ++ e ∷ []) ≡ takes_in p es + takes_of p e.act e.said
 takes_snoc p [] e = omega arith
 takes_snoc p (x ∷ es) e = let r = takes_snoc p es e in omega arith
@@ -119,7 +119,7 @@ held_within s z same sound o k q holds =
     let e : s.sizes.objects ≡ z.objects = ap (λ (x : Sizes). x.objects) same in
     omega arith
 
--- the hands behind a step
+-- the hands after a step
 hands_set : (z : Sizes) (shown later : List ℕ) (views : List View) (id : ℕ) (v w : View) → get_elem? views id ≡ some v → HandsKept z shown views
     → ((o : ℕ) → count_in o w.hands + grey z shown o ≡ count_in o v.hands + grey z later o) → HandsKept z later (set views id w)
 hands_set z shown later views id v w at was change = λ o.

@@ -10,7 +10,7 @@ use Rattle.entry_base.specs.Callers.{SameCaller, SameOwn, Looks, Extends}
 use Rattle.entry_base.specs.Facts.{GoesOn}
 use Rattle.entry_base.specs.Lists.{Has, count_in}
 
--- a load without an event told these facts
+-- these facts were learned by a load without an event
 pub record Loaded (v : View) (more : List Fact) (w : View) : Type 0 where
   pub same : SameCaller v w
   pub own : SameOwn v w

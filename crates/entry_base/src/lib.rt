@@ -4,7 +4,7 @@
 //! `table.rt` opens and closes the table, `sessions.rt` has what one caller steps with, `chunks.rt` hands objects over, and
 //! `view.rt` says what a session knows. `plays.rt` has the rule as the kit's `atomic_table` takes it, and the steps that change
 //! two seats. `arrays.rt` keeps variables and tickets, and `closing.rt` closes segments. The rule stands in `specs/Rule.antt`,
-//! one subject a file beside it; the kinds of step stand in the crates above, which use what `proofs/Steps.antt` and
+//! one subject a file next to it; the kinds of step stand in the crates above, which use what `proofs/Steps.antt` and
 //! `proofs/Changes.antt` show of every kind.
 #![tactic(auto)]
 

@@ -66,7 +66,7 @@ IsLinkWord flag word = (flag ≤ word) × (word < flag + 2 ^ 32)
 abbrev pub IsTaggedWord : ℕ → ℕ → Type 0
 IsTaggedWord flags word = (flags + 2 ^ 48 ≤ word) × (word < flags + 2 ^ 56)
 
--- the word of some valid entry, told by the ranges that the words stand in
+-- the word of some valid entry, stated by the ranges that the words stand in
 abbrev pub IsEntryWord : ℕ → Type 0
 IsEntryWord word =
     (word ≡ 0)

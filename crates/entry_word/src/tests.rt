@@ -1,4 +1,4 @@
-// Words that were worked out by hand, beside the entries that they stand for, and words that are no
+// Words that were worked out by hand, with the entries that they stand for, and words that are no
 // entry's. The functions before the tests show, by proof, what a caller learns from the contracts.
 ghost use Rattle.std.specs.Prelude.{◌≡◌, ◌<◌, ◌↔◌, true, IsTrue, length, map, slice_get, slice_index, All};
 ghost use Rattle.entry_word.specs.Entry.{IsValid, IsTagged, IsNoEntry, entry_word};

@@ -10,6 +10,6 @@ raised n = if nat_lt n (2 ^ 64 - 1) then n + 1 else n
 abbrev pub Rose : ℕ → ℕ → Type 0
 Rose old new = (old < new) ⊎ (2 ^ 64 - 1 ≤ new)
 
--- behind this many calls, no later call is planned to fail
+-- after this many calls, no later call is planned to fail
 abbrev pub NoneToCome : ℕ → List ℕ → Type 0
 NoneToCome calls fail_at = All (λ number. number ≤ calls) fail_at

@@ -11,11 +11,11 @@ pub record Supply : Type 0 where
   pub fail_at : List ℕ
   pub faults : ℕ
 
--- the source behind a read that gave n bytes
+-- the source after a read that gave n bytes
 abbrev pub after_read : Supply → ℕ → Supply
 after_read s n = record s { left = drop n s.left; reads = raised s.reads }
 
--- the source behind a read that failed
+-- the source after a read that failed
 abbrev pub after_failed_read : Supply → Supply
 after_failed_read s = record s { reads = raised s.reads; faults = raised s.faults }
 
@@ -33,12 +33,12 @@ pub record Store : Type 0 where
   pub fail_at : List ℕ
   pub faults : ℕ
 
--- the sink behind a write that took these bytes
+-- the sink after a write that took these bytes
 abbrev pub after_write : Store → List ℕ → Store
 after_write s bytes =
     record s { written = s.written ++ bytes; room = s.room - length bytes; writes = raised s.writes }
 
--- the sink behind a write that failed
+-- the sink after a write that failed
 abbrev pub after_failed_write : Store → Store
 after_failed_write s = record s { writes = raised s.writes; faults = raised s.faults }
 

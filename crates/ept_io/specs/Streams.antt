@@ -3,18 +3,19 @@ use Rattle.std.specs.Prelude.{◌≡◌, ℕ, Bool, true, false, Option, None, S
 use Rattle.ept_io.specs.Bytes.{Gave, Took}
 use Rattle.ept_io.specs.Faults.{raised}
 
--- the bytes that the reader has left, or that the writer holds, where it has told them from the first; and the faults so far
+-- the bytes that the reader has left, or that the writer holds, where they are known from the first; and the faults so
+-- far
 pub record Stream : Type 0 where
   pub bytes : Option (List ℕ)
   pub faults : ℕ
 
--- what is told of a reader or a writer that told `first` at the start and tells `now`: nothing where it told nothing at
--- the start, since std's contracts let it tell its bytes later
+-- what is known of a reader or a writer of which `first` was known at the start and `now` is known now: nothing where
+-- nothing was known at the start, since std's contracts let it tell its bytes later
 abbrev pub known_since : Option (List ℕ) → Option (List ℕ) → Option (List ℕ)
 known_since None now = None
 known_since (Some bytes) now = now
 
--- what told its bytes at the start tells them now
+-- where the bytes were known at the start, they are known now
 abbrev pub tells_on : Option (List ℕ) → Option (List ℕ) → Bool
 tells_on None now = true
 tells_on (Some bytes) None = false

@@ -16,7 +16,7 @@ use std::marker::Model;
 use std::snapshot::Snapshot;
 
 /// A source over a reader. Contracts see it as a `Stream` (specs/Streams.antt): the bytes that the
-/// reader has left, where the reader told them at `new`, and the count of faults, a u64 that rises
+/// reader has left, where they were known at `new`, and the count of faults, a u64 that rises
 /// at each error, up to 2^64 - 1.
 #[derive(Drop)]
 pub struct ReadSource<R: Read> {
@@ -98,7 +98,7 @@ fn read_again<R: Read>(reader: &mut R, buf: &mut [u8]) -> io::Result<usize>
 }
 
 /// A sink over a writer. Contracts see it as a `Stream` (specs/Streams.antt): the bytes that the
-/// writer holds, where the writer told them at `new`, and the count of faults, a u64 that rises at
+/// writer holds, where they were known at `new`, and the count of faults, a u64 that rises at
 /// each error and at each write that took nothing, up to 2^64 - 1.
 #[derive(Drop)]
 pub struct WriteSink<W: Write> {
@@ -136,7 +136,7 @@ impl<W: Write> WriteSink<W> {
         }
     }
 
-    /// The writer, with what was written to it, where that is told.
+    /// The writer, with what was written to it, where that is known.
     pub fn into_inner(self) -> W
         ensures { IfSome (⟦<WriteSink<W> as Sink>⟧.written self) (λ bytes. W.contents result ≡ Some bytes) }
     {

@@ -38,7 +38,7 @@ fn run<R: AllocGlobal + Env + Print + Threads + Sync>(rt: &R) -> CodeStatus {
     }
 }
 
-/// The words behind the program's name. Words that are not text are no number.
+/// The words after the program's name. Words that are not text are no number.
 fn words<R: AllocGlobal + Env>(rt: &R) -> Result<Vec<String>, CodeStatus> {
     match env::args(rt) {
         Ok(all) => match all.skip(1).collect(rt.alloc()) {

@@ -31,7 +31,7 @@ fn run<R: AllocGlobal + Env + Input + Print + Threads + Sync>(rt: &R) -> Status 
     }
 }
 
-/// The words behind the program's name. Words that are not text have no known form.
+/// The words after the program's name. Words that are not text have no known form.
 fn words<R: AllocGlobal + Env>(rt: &R) -> Result<Vec<String>, Status> {
     match env::args(rt) {
         Ok(all) => match all.skip(1).collect(rt.alloc()) {

@@ -182,7 +182,7 @@ makes_publish old k1 k2 new b i said allowed is e1 e2 e3 s1 s2 s3 = (
   s3 ∙ s2 ∙ s1,
 )
 
--- what a step of the code says of the table behind it
+-- what a step of the code says of the table after it
 pub Steps-next : (old new : Kept) (e : Event) (done : Bool) → Steps done old new e → OnTrue done (shown new ≡ next (shown old) e)
 Steps-next old new e true steps = steps.1
 Steps-next old new e false steps = tt

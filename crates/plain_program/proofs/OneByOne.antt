@@ -82,13 +82,13 @@ replayed-start k limits events is unspent = record {
   rest = let P : Table → Type 0 = λ (t : Table). IsLegalHistory t events in (λ h. subst P is h, λ h. subst P (sym is) h);
 }
 
--- the events from i on, as the event at i and those behind it
+-- the events from i on, as the event at i and those after it
 ahead : (k : Kept) (first : Table) (events : List Event) (i : ℕ) (d : Event) → i < length events → IsReplayed k first events i →
     IsLegalHistory (shown k) (get_or events i d ∷ drop (i + 1) events) ↔ IsLegalHistory first events
 ahead k first events i d below kept =
     subst (λ (es : List Event). IsLegalHistory (shown k) es ↔ IsLegalHistory first events) (drop_more events i d below) kept.rest
 
--- behind a step that was made
+-- after a step that was made
 pub replayed-next : (old new : Kept) (first : Table) (events : List Event) (i : ℕ) (d : Event) → i < length events →
     IsReplayed old first events i → (done : Bool) → done ≡ true → (IsTrue done ↔ CanStep old (get_or events i d)) →
     OnTrue done (shown new ≡ next (shown old) (get_or events i d)) → OnTrue done (new.spent ≡ false) → IsReplayed new first events (i + 1)

@@ -79,7 +79,7 @@ or_values : (values : Bool) {P : Type 0} → (values ≡ true) ↔ P → IsTrue 
 or_values values says (inl h) = absurd (cc)
 or_values values says (inr p) = says.1 p
 
--- an object behind a union, by what it is for it to be in the second part
+-- an object after a union, by what it is for it to be in the second part
 pub or_iff : (after before values : Bool) {P : Type 0} → after ≡ (before || values) → (values ≡ true) ↔ P → IsTrue after ↔ (IsTrue before ⊎ P)
 or_iff after true values is says = (λ h. inl refl, λ h. is)
 or_iff after false values is says = (λ h. inr (says.0 (sym is ∙ h)), λ h. is ∙ or_values values says h)

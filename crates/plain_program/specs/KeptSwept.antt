@@ -26,7 +26,7 @@ pub record IsSwept (s : Table) (c : Cycle) (k : KeptSwept) : Type 0 where
   pub words : (number : ℕ) → word_at k.external_words number ≡ rewritten c s.words (field.External number)
   pub tickets : (b : ℕ) → at k.tickets b ≡ ticket_kept s c (s.ticket b)
 
--- behind a sweep no number has a claim, and no cycle is under way
+-- after a sweep no number has a claim, and no cycle is under way
 abbrev pub swept_kept : Kept → KeptSwept → Kept
 swept_kept k made = record k {
   external_cells = made.external_cells;

@@ -130,7 +130,7 @@ impl State {
             && self.may_fill(space, index)
     }
 
-    /// An index in the evacuation area is filled only behind an abort.
+    /// An index in the evacuation area is filled only after an abort.
     fn may_fill(&self, space: Space, index: u32) -> bool
         ensures { IsTrue result ↔ MayFill (shown self.now) space index }
     {

@@ -21,7 +21,7 @@ use std::alloc::Global;
 use std::collections::{BTreeMap, BTreeSet};
 use std::marker::Model;
 
-/// What a sweep makes: the cells and used indexes of both spaces, the external words and the tickets behind it.
+/// What a sweep makes: the cells and used indexes of both spaces, the external words and the tickets after it.
 #[derive(Drop)]
 struct Swept {
     external_cells: BTreeMap<u32, Cell>,
@@ -175,7 +175,7 @@ impl State {
         self.cell(space, source)
     }
 
-    /// The cells of a space behind the sweep.
+    /// The cells of a space after the sweep.
     fn swept_cells(
         &self,
         alloc: Global,
@@ -191,7 +191,7 @@ impl State {
         Ok(cells)
     }
 
-    /// The used indexes of a space behind the sweep: 0 and those of the cells.
+    /// The used indexes of a space after the sweep: 0 and those of the cells.
     fn swept_used(
         &self,
         alloc: Global,
@@ -211,7 +211,7 @@ impl State {
         Ok(used)
     }
 
-    /// The words of external fields behind the sweep.
+    /// The words of external fields after the sweep.
     fn swept_words(
         &self,
         alloc: Global,
@@ -227,7 +227,7 @@ impl State {
         Ok(words)
     }
 
-    /// The word of an external field behind the sweep.
+    /// The word of an external field after the sweep.
     fn swept_word(&self, cycle: &CycleState, number: u32) -> u32
         ensures { result ≡ rewritten (shown_cycle cycle.now) (shown self.now).words (field.External number) }
     {
@@ -241,7 +241,7 @@ impl State {
         }
     }
 
-    /// The tickets behind the sweep.
+    /// The tickets after the sweep.
     fn swept_tickets(
         &self,
         alloc: Global,

@@ -8,7 +8,7 @@ use Rattle.plain_table.specs.Table.{Table}
 use Rattle.plain_table.specs.History.{IsLegalHistory, after, next}
 use Rattle.plain_table.specs.Shapes.{Held, IsShape, MakesCalls, OwnTicket, held_after, held_next, own_after, own_next}
 
--- a history behind another one
+-- a history after another one
 pub after-append : (s : Table) (es fs : List Event) → after s (es ++ fs) ≡ after (after s es) fs
 after-append s [] fs = refl
 after-append s (e ∷ es) fs = after-append (next s e) es fs

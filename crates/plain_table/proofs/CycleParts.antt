@@ -1,4 +1,4 @@
--- What holds of the cycle under way, where there is one: from one fact to another, behind each change of the cycle, and
+-- What holds of the cycle under way, where there is one: from one fact to another, after each change of the cycle, and
 -- from the legality of an event.
 use Rattle.std.proofs.Common.{◌≡◌, ℕ, Option, Some, None, IsSomeAnd, IfSome, option_map}
 use Rattle.plain_table.specs.Cycle.{Cycle, start_in}
@@ -11,7 +11,7 @@ use Rattle.plain_table.proofs.Options.{IfSome-is}
 pub CycleSound-is : (s : Table) (c : Cycle) → IsSound s → s.cycle ≡ Some c → CycleSound s c
 CycleSound-is s c h is = IfSome-is s.cycle (CycleSound s) c is h.cycle
 
--- from what holds of a cycle, one fact or two, to what holds of it behind a change
+-- from what holds of a cycle, one fact or two, to what holds of it after a change
 pub IfSome-changed : {P : Cycle → Type 0} (Q : Cycle → Type 0) {change : Cycle → Cycle} (cycle : Option Cycle) → IfSome cycle P →
     ((c : Cycle) → P c → Q (change c)) → IfSome (option_map change cycle) Q
 IfSome-changed Q None h f = h
@@ -22,7 +22,7 @@ pub IfSome-changed_by : {P R : Cycle → Type 0} (Q : Cycle → Type 0) {change 
 IfSome-changed_by Q None h k f = h
 IfSome-changed_by Q (Some c) h k f = f c h k
 
--- behind a finish there is no cycle
+-- after a finish there is no cycle
 pub IfSome-finished : (P Q : Cycle → Type 0) (s : Table) (cycle : Option Cycle) → IsSomeAnd cycle P → IfSome (finished_in s cycle).cycle Q
 IfSome-finished P Q s None k = absurd k
 IfSome-finished P Q s (Some c) k = tt

@@ -1,4 +1,4 @@
--- The least free index and the count of free ones: what they tell of the indexes, and what they are behind a take.
+-- The least free index and the count of free ones: what they tell of the indexes, and what they are after a take.
 use Rattle.std.proofs.Common.{◌≡◌, ◌≢◌, ◌+◌, ◌-◌, ◌<◌, ◌≤◌, ℕ, zero, suc, Bool, true, false, Some, None, unwrap_or, refl, sym, ap, ap₂, ◌∙◌, inl, inr, arith}
 use Rattle.std.specs.Prelude.{if◌then◌else◌}
 use Rattle.std.proofs.lemmas.Bool.{cases_Bool}

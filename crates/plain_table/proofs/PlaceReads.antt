@@ -1,4 +1,4 @@
--- What a map says at any place behind a change at one: it is that place and the new value, or another and the old one. So
+-- What a map says at any place after a change at one: it is that place and the new value, or another and the old one. So
 -- what is true stays so where only true is set.
 use Rattle.std.proofs.Common.{◌≡◌, ◌≢◌, ℕ, ◌==◌, Bool, true, false, IsTrue, refl, ap, ◌∙◌, eq-eqb, ne_eqb, inl, inr}
 use Rattle.std.specs.Prelude.{◌⊎◌, ◌&&◌, if◌then◌else◌}

@@ -9,7 +9,7 @@ use Rattle.plain_table.specs.Places.{object_of}
 use Rattle.plain_table.specs.Table.{Sizes, limit_in}
 use Rattle.plain_table.specs.Words.{freelist_place, header_place, reference_place, field_place, entry_place, words_in_all}
 
--- heap words stand behind the globals and before the entries
+-- heap words stand after the globals and before the entries
 pub field_place-from : (f : Field) → 37 ≤ field_place f
 field_place-from (field.External number) = omega arith
 field_place-from (field.Trusted number) = omega arith
@@ -38,7 +38,7 @@ field_place-same (field.Trusted m) (field.Trusted n) e = ap field.Trusted (omega
 field_place-same (field.External m) (field.Trusted n) e = absurd (omega (arith, e))
 field_place-same (field.Trusted m) (field.External n) e = absurd (omega (arith, e))
 
--- entries stand behind all others
+-- entries stand after all others
 pub entry_place-from : (sizes : Sizes) (p : Space) (i : ℕ) → 32 + 8 * sizes.objects ≤ entry_place sizes p i
 entry_place-from sizes External i = omega arith
 entry_place-from sizes Trusted i = omega arith

@@ -1,7 +1,7 @@
 -- What it is for an outcome to belong to a script by a history: the history is legal from the opening and has one part
 -- a phase, in which the events of each mutator are the shapes of its calls, each once and in its order, with the
 -- replies of the outcome, those of each marker are scans, and those of the meet come last; and the totals of the
--- outcome are those of the table behind it.
+-- outcome are those of the table after it.
 use Rattle.std.specs.Prelude.{◌≡◌, ◌≢◌, ◌⊎◌, ℕ, zero, suc, ◌+◌, ◌^◌, ◌%◌, ◌<◌, ◌≤◌, ◌==◌, Bool, true, false, List, [], ◌∷◌, ◌++◌, length, Option, slice_index_or, IsTrue}
 use Rattle.std.specs.List.{All, Any, filter, count_by}
 use Rattle.plain_table.specs.declared.scripts.Limits.{Limits}
@@ -26,7 +26,7 @@ use Rattle.plain_table.specs.Shapes.{MakesCalls, with_ticket}
 use Rattle.plain_table.specs.Scans.{Scans, Rest, IsReadConcurrently}
 use Rattle.plain_table.specs.Sweeps.{MeetBelongs, cells_in, linked_after}
 
--- the part of a history that is one phase: what happened beside each other, and then what happened at its meet
+-- the part of a history that is one phase: what happened concurrently, and then what happened at its meet
 pub record Part : Type 0 where
   pub during : List Event
   pub meet : List Event
@@ -59,7 +59,7 @@ pub record PhaseBelongs (limits : Limits) (begins : Bool) (linked : List ℕ) (s
       (events_by b part.during)
   -- the events of each marker are scans, of any objects
   pub scans : (b : ℕ) → IsMarker limits b → Scans (λ t o. Unit {0}) IsReadConcurrently b Rest s part.during Rest
-  -- no other number makes an event beside them
+  -- no other number makes an event concurrently with them
   pub numbers : All (λ (e : Event). (e.by < limits.mutators) ⊎ IsMarker limits e.by) part.during
   -- in the first phase of a cycle markers scan each root
   pub roots : IsTrue begins → 1 ≤ limits.markers → (o : ℕ) → IsRoot s.globals s.vars o → IsScannedIn limits part.during o

@@ -1,6 +1,6 @@
 -- A collection cycle under way: its evacuation area, its marks and evacuation entries, the objects born and scanned
--- since its start, and the words that stood in fields since. What was reachable at its start is told by a copy of the
--- references, globals, variables and words of that moment.
+-- since its start, and the words that stood in fields since. What was reachable at its start is known from a copy of
+-- the references, globals, variables and words of that moment.
 use Rattle.std.specs.Prelude.{◌≡◌, ◌≢◌, ◌⊎◌, ℕ, Bool, true, false, nat_le, if◌then◌else◌, Option, Some, None, IsTrue}
 use Rattle.std.specs.Option.{option_map}
 use Rattle.plain_table.specs.declared.events.Space.{Space}

@@ -26,7 +26,7 @@ area_of s policy =
     area_start policy (segments_in_use (s.used External) (limit_of s External) s.sizes.seg)
     (count_below (s.used External) (limit_of s External)) s.sizes.seg
 
--- behind a start nothing is marked, moved, born or scanned, and the words that stand in fields are touched; no call is
+-- after a start nothing is marked, moved, born or scanned, and the words that stand in fields are touched; no call is
 -- under way at a meet, so nothing is fresh
 abbrev pub started : Table → Policy → Table
 started s policy = record s {
@@ -85,11 +85,11 @@ abbrev pub source : Cycle → (Field → ℕ) → Space → ℕ → Option ℕ
 source c words External e = if is_at (place c words External e) e then Some e else evacuee c words e
 source c words Trusted e = if is_at (place c words Trusted e) e then Some e else None
 
--- the cells behind a finish
+-- the cells after a finish
 abbrev pub swept : Table → Cycle → Space → ℕ → Option Cell
 swept s c p e = if nat_lt e (limit_of s p) then option_and_then (s.cells p) (source c s.words p e) else None
 
--- the words behind a finish: a field that has an evacuation entry follows the cell that it names, where that one moves
+-- the words after a finish: a field that has an evacuation entry follows the cell that it names, where that one moves
 abbrev pub rewritten : Cycle → (Field → ℕ) → Field → ℕ
 rewritten c words (field.External number) =
     if c.visited number

@@ -1,5 +1,5 @@
 -- Legal histories: each event is legal in the table that the events before it left, and has the reply of its row. A
--- history is a list of events in the order in which they took effect, and the table behind it follows from the table
+-- history is a list of events in the order in which they took effect, and the table after it follows from the table
 -- that it begins at.
 use Rattle.std.specs.Prelude.{◌≡◌, List, [], ◌∷◌}
 use Rattle.plain_table.specs.declared.events.Event.{Event}
@@ -10,7 +10,7 @@ use Rattle.plain_table.specs.Rows.{row}
 abbrev pub IsLegal : Table → Event → Type 0
 IsLegal s e = (row s e.by e.act).allowed × (e.said ≡ (row s e.by e.act).reply)
 
--- the table behind an event
+-- the table after an event
 abbrev pub next : Table → Event → Table
 next s e = (row s e.by e.act).next
 
@@ -18,7 +18,7 @@ abbrev pub IsLegalHistory : Table → List Event → Type 0
 IsLegalHistory s [] = Unit {0}
 IsLegalHistory s (e ∷ es) = IsLegal s e × IsLegalHistory (next s e) es
 
--- the table behind a history
+-- the table after a history
 abbrev pub after : Table → List Event → Table
 after s [] = s
 after s (e ∷ es) = after (next s e) es

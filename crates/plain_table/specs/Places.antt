@@ -1,5 +1,5 @@
 -- Places of the table (an index of a space, a field, a variable or reference, a claim of a number on an index), and
--- what a map says behind a change at one of them: the new value there, and the old one everywhere else. Which space and
+-- what a map says after a change at one of them: the new value there, and the old one everywhere else. Which space and
 -- which object a field belongs to is said here too.
 use Rattle.std.specs.Prelude.{ℕ, ◌/◌, ◌==◌, Bool, true, false, ◌&&◌, if◌then◌else◌}
 use Rattle.plain_table.specs.declared.events.Space.{Space}

@@ -1,5 +1,5 @@
 -- Reachable objects: those that a global or a variable of any mutator holds, the roots, and those that a reference of
--- a reachable object holds. It is told of the three maps, so that an event that changes none of them leaves it alone.
+-- a reachable object holds. It is stated of the three maps, so that an event that changes none of them leaves it alone.
 -- A collection cycle keeps the cells of reachable objects.
 use Rattle.std.specs.Prelude.{◌≡◌, ◌⊎◌, ℕ, Option, Some}
 

@@ -1,5 +1,5 @@
 -- The table of events: one equation an act, with its three columns. `allowed` says where the event is legal, `reply`
--- what it answers, and `next` the table behind it. What `next` does not name stays as it was. Before the rows stand the
+-- what it answers, and `next` the table after it. What `next` does not name stays as it was. Before the rows stand the
 -- words that they are said in.
 use Rattle.std.specs.Prelude.{◌≡◌, ◌⊎◌, ℕ, ◌+◌, ◌^◌, ◌<◌, ◌≤◌, ◌==◌, nat_lt, nat_le, Bool, true, false, ◌&&◌, if◌then◌else◌, Option, Some, None, IsTrue, IsSome, IsSomeAnd, IfSome}
 use Rattle.std.specs.Option.{option_map, option_map_or}
@@ -76,7 +76,7 @@ abbrev pub value_at : Option Cell → ℕ
 value_at None = 0
 value_at (Some c) = c.value
 
--- a put in the evacuation area comes only behind an abort
+-- a put in the evacuation area comes only after an abort
 abbrev pub MayFill : Table → Space → ℕ → Type 0
 MayFill s External i = IfSome s.cycle (λ c. IfSome c.start (λ start. start ≤ i → IsTrue c.aborted))
 MayFill s Trusted i = Unit {0}
@@ -139,7 +139,7 @@ with_cell s b p i tag value = record s {
   cycle = marked_in s.cycle p i;
 }
 
--- the tickets behind a bind: the trusted cell that a number filled and bound is its own to publish
+-- the tickets after a bind: the trusted cell that a number filled and bound is its own to publish
 abbrev pub tickets_after : Table → ℕ → Space → ℕ → ℕ → Option ℕ
 tickets_after s b External i = s.ticket
 tickets_after s b Trusted i = if s.fresh b Trusted i then put_at s.ticket b (Some i) else s.ticket

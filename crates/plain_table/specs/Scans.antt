@@ -52,7 +52,7 @@ pub data Scanner : Type 0 where
   -- no index was free
   GiveUp : (o : ℕ) → List Field → Scanner
 
--- behind the mark of a field's word
+-- after the mark of a field's word
 abbrev pub marked_at : ℕ → List Field → Field → ℕ → Scanner
 marked_at o fields (field.External number) w = Move o fields number w
 marked_at o fields (field.Trusted number) w = Visit o fields

@@ -47,7 +47,7 @@ WithTarget held (Some var) said events Shape = WithObject held var said events (
 abbrev pub IsLink : ℕ → Spot → Option ℕ → Reply → List Event → Type 0
 IsLink b spot target said events = events ≡ event b (Link spot target) said ∷ []
 
--- in a cycle a put into the evacuation area comes behind an abort
+-- in a cycle a put into the evacuation area comes after an abort
 abbrev pub abort_before : ℕ → Option Cycle → ℕ → List Event
 abort_before b cycle i = if is_in_area cycle i then event b Abort reply.Ok ∷ [] else []
 
@@ -152,7 +152,7 @@ IsShape b cycle held ticket (op.Share from to) said events =
     WithObject held from said events (λ o. WithObject held to said events (λ q.
     IsShare b cycle (field.Trusted o) (field.Trusted q) said events))
 
--- the variables behind an event of their mutator, and behind several
+-- the variables after an event of their mutator, and after several
 abbrev pub held_next : Held → Act → Reply → Held
 held_next held (New var) (reply.Obj o) = put_at held var (Some o)
 held_next held (Drop var) _ = put_at held var None

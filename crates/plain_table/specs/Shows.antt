@@ -119,7 +119,7 @@ IsCovered words s = IfSome s.cycle (IsCoveredIn words s)
 abbrev pub IsLawful : Image → Type 0
 IsLawful image = (s : Table) × IsSound s × ImageShows image s × IsCovered image.words s
 
--- a fresh space: one committed segment of free entries behind entry 0
+-- a fresh space: one committed segment of free entries after entry 0
 pub record IsFreshSpace (sizes : Sizes) (p : Space) (limit : ℕ) (words : List ℕ) : Type 0 where
   pub freelist : slice_index words (freelist_place p) ≡ freelist_word 1 (sizes.seg - 1)
   pub null : slice_index words (entry_place sizes p 0) ≡ 0

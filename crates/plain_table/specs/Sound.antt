@@ -1,4 +1,4 @@
--- A sound table: what holds of every table behind a legal history, and what each legal event keeps. It is told in
+-- A sound table: what holds of every table after a legal history, and what each legal event keeps. It is stated in
 -- groups, each over the parts of the table that it speaks of, so that an event that leaves these alone keeps the group.
 -- The last five groups speak of a cycle.
 use Rattle.std.specs.Prelude.{◌≡◌, ◌≢◌, ◌⊎◌, ℕ, ◌*◌, ◌^◌, ◌<◌, ◌≤◌, Bool, false, Option, Some, None, unwrap_or, IsTrue, IsSome, IsSomeAnd, IfSome}
@@ -80,7 +80,7 @@ pub record AreaSound (seg greatest : ℕ) (start : Option ℕ) (aborted : Bool) 
       IsSomeAnd start (λ first. i < first) × old (object_of (field.External number)) × IsTrue (visited number)
   pub visits : (number : ℕ) → IsTrue (visited number) → (i : ℕ) × (evac i ≡ Some number)
 
--- marks: only cells are marked, and fresh ones are; an external fresh one stands in the area only behind an abort
+-- marks: only cells are marked, and fresh ones are; an external fresh one stands in the area only after an abort
 pub record MarksSound (ids : Space → ℕ → Option ℕ) (fresh : ℕ → Space → ℕ → Bool) (marks : Space → ℕ → Bool) (start : Option ℕ) (aborted : Bool) : Type 0 where
   pub cells : (p : Space) (i : ℕ) → IsTrue (marks p i) → IsSome (ids p i)
   pub filled : (b : ℕ) (p : Space) (i : ℕ) → IsTrue (fresh b p i) → IsTrue (marks p i)

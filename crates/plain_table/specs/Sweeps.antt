@@ -1,5 +1,5 @@
 -- What happens at a meet, and its report: the start of a cycle, or the scans that are still owed and the finish. The
--- numbers of a sweep's report are those of the tables before and behind the finish. A meet scans only what is due, and
+-- numbers of a sweep's report are those of the tables before and after the finish. A meet scans only what is due, and
 -- reads the words that stand in fields then.
 use Rattle.std.specs.Prelude.{◌≡◌, ℕ, ◌+◌, Bool, true, false, ◌||◌, List, [], ◌∷◌, ◌++◌, Option, Some, None, is_some, IsTrue}
 use Rattle.std.specs.List.{All, Contains}
@@ -32,7 +32,7 @@ use Rattle.plain_table.specs.Scans.{Scans, Rest, IsReadAtMeet}
 abbrev pub meeting : ℕ
 meeting = 12
 
--- the objects that were linked to references since the last start, behind a history
+-- the objects that were linked to references since the last start, after a history
 abbrev pub linked_next : Table → ℕ → Act → List ℕ → List ℕ
 linked_next s b (Start policy) linked = []
 linked_next s b (Link (Ref object k) target) linked = option_to_list (object_in s b target) ++ linked
@@ -63,7 +63,7 @@ compaction_by (Some start) false = Done
 abbrev pub cells_in : Table → Space → ℕ
 cells_in s p = count_below (λ i. is_some (s.cells p i)) (limit_of s p)
 
--- the report of the finish of cycle c in the table s, with the table t behind it
+-- the report of the finish of cycle c in the table s, with the table t after it
 pub record IsSweep (s : Table) (c : Cycle) (t : Table) (sweep : SweepReport) : Type 0 where
   pub kept : sweep.kept ≡ cells_in t External
   pub freed : sweep.kept + sweep.freed ≡ cells_in s External

@@ -17,8 +17,8 @@ pub struct Cell {
     pub shown: bool,
 }
 
-/// A place that holds an object or nothing, beside the variables: a global below 16, or reference `k` below 4 of an
-/// object.
+/// A place that holds an object or nothing, other than the variables: a global below 16, or reference `k` below 4 of
+/// an object.
 #[derive(Clone, Copy, Debug, PartialEq, Eq)]
 pub enum Spot {
     Global { g: u32 },

@@ -46,7 +46,7 @@ pub enum Compaction {
     Aborted,
 }
 
-/// What a sweep did: external cells kept, freed and moved, the segments in use behind it, and trusted cells kept and
+/// What a sweep did: external cells kept, freed and moved, the segments in use after it, and trusted cells kept and
 /// freed.
 #[derive(Clone, Copy, Debug, PartialEq, Eq)]
 pub struct SweepReport {

@@ -1,4 +1,4 @@
--- The report of a run, as it is printed: each reply on a line of its own behind the mutator's number, and the line of
+-- The report of a run, as it is printed: each reply on a line of its own after the mutator's number, and the line of
 -- each meet; and the text of a refused script.
 use Rattle.std.specs.Prelude.{ℕ, ◌+◌, List, [], ◌∷◌, ◌++◌, Option, Some, None, codes}
 use Rattle.std.specs.List.{concat, flat_map}

@@ -95,7 +95,7 @@ fn push_reply(text: &mut String, reply: Reply) -> Result<(), AllocError>
     }
 }
 
-// A name, and behind it the last digits of a number.
+// A name, and after it the last digits of a number.
 fn push_named(text: &mut String, name: &str, digits: u8, number: u64) -> Result<(), AllocError>
     ensures { OnOk result (string_bytes text.new ≡ string_bytes text.old ++ (name.now ++ hex digits number)) }
 {

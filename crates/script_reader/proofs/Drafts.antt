@@ -1,4 +1,4 @@
--- What holds of the operations of a phase once they are sorted by mutators, and of phases with one more behind them.
+-- What holds of the operations of a phase once they are sorted by mutators, and of phases with one more after them.
 use Rattle.std.proofs.Common.{◌≡◌, ℕ, zero, suc, ◌+◌, ◌==◌, ◌<◌, ◌≤◌, nat_lt, Bool, true, false, cond, List, [], ◌∷◌, ◌++◌, length, Some, None, refl, ◌∙◌, ap, arith, length-append}
 use Rattle.std.specs.List.{All}
 use Rattle.std.specs.Option.{option_and_then}

@@ -70,7 +70,7 @@ at-global a g s h =
     let t : nat_lt g 16 ≡ true = grind (arith, common_steps, nat_tests) in
     rw (read-decimal g (omega arith), t) refl
 
--- one place, and then those behind it
+-- one place, and then those after it
 next : (a : ℕ) (p : Place) (w : List ℕ) (ps : List Place) (ws : List (List ℕ)) (s t : Said) → read_at a p w s ≡ Ok t
     → read_places a (p ∷ ps) (w ∷ ws) s ≡ read_places a ps ws t
 next a p w ps ws s t h = rw h refl

@@ -39,7 +39,7 @@ next : {parts : List (List ℕ)} {word : List ℕ} (onward : List (List ℕ)) �
 next [] h full = absurd cc
 next {word = word} (b ∷ more) h full = (word, b, more, h)
 
--- where a part is behind the first, there are two at least
+-- where a part follows the first, there are two at least
 pub two_parts : (p : ℕ → Bool) (line word rest : List ℕ) → slice_split p line ≡ word ∷ slice_split p rest
     → (a b : List ℕ) × (more : List (List ℕ)) × (slice_split p line ≡ a ∷ b ∷ more)
 two_parts p line word rest h = next (slice_split p rest) h (slice_split-full p rest)

@@ -60,7 +60,7 @@ op_words (op.TLoad v first last) = codes "tload" ∷ letter v ∷ range_word fir
 op_words (op.TRaw w first last) = codes "traw" ∷ index_word w ∷ range_word first last ∷ []
 op_words (op.Share v u) = codes "share" ∷ letter v ∷ letter u ∷ []
 
--- words, each behind a space
+-- words, each after a space
 abbrev pub spaced : List (List ℕ) → List ℕ
 spaced words = flat_map (λ word. 32 ∷ word) words
 

@@ -38,7 +38,7 @@ form_of name =
     else (if bytes_eq name (codes "share") then Some form.Share
     else None))))))))))))))))))
 
--- the places behind the name. A form's second variable is `Other`; a target is a variable or `-`; a reference is a
+-- the places after the name. A form's second variable is `Other`; a target is a variable or `-`; a reference is a
 -- small number below 4, a field one below 2, and a global one below 16
 abbrev pub places_of : Form → List Place
 places_of form.New = place.Variable ∷ []
@@ -105,7 +105,7 @@ ranged bound number said = mapped said (number_below bound number)
 abbrev pub target_of : List ℕ → Option (Option ℕ)
 target_of word = if bytes_eq word (codes "-") then Some None else option_map Some (variable_of word)
 
--- what a word of a script of this version says at a place, beside what the other places say
+-- what a word of a script of this version says at a place, besides what the other places say
 abbrev pub read_at : ℕ → Place → List ℕ → Said → Result Said Fault
 read_at version place.Variable word s = spelled BadLine (variable_of word) (λ v. record s { variable = v })
 read_at version place.Other word s = spelled BadLine (variable_of word) (λ v. record s { other = v })
@@ -132,12 +132,12 @@ order OutOfRange = 4
 order BadMeet = 5
 order TooMany = 6
 
--- of a place's fault and the one of the places behind it, where they have one, the one that is tested first
+-- of a place's fault and the one of the places after it, where they have one, the one that is tested first
 abbrev pub first_of : Fault → Result Said Fault → Fault
 first_of fault (Ok said) = fault
 first_of fault (Err other) = if nat_le (order fault) (order other) then fault else other
 
--- what one place says, and then those behind it
+-- what one place says, and then those after it
 abbrev pub read_on : Result Said Fault → Said → (Said → Result Said Fault) → Result Said Fault
 read_on (Ok said) before onward = onward said
 read_on (Err fault) before onward = Err (first_of fault (onward before))

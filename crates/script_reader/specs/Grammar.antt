@@ -50,13 +50,13 @@ lists_of (suc mutator) calls = lists_of mutator calls ++ ops_of mutator calls �
 abbrev pub phase_of : ℕ → List Call → Meet → Phase
 phase_of mutators calls meet = record { calls = lists_of mutators calls; meet = meet }
 
--- whether a cycle is under way behind a meet
+-- whether a cycle is under way after a meet
 abbrev pub cycle_after : Bool → Meet → Bool
 cycle_after cycle (Start policy) = true
 cycle_after cycle Finish = false
 cycle_after cycle _ = cycle
 
--- what is read so far, behind an operation and behind a meet
+-- what is read so far, after an operation and after a meet
 abbrev pub with_call : Draft → Call → Draft
 with_call d call = record d {
   calls = d.calls ++ call ∷ [];
@@ -83,7 +83,7 @@ ended limits d = record {
   phases = d.phases ++ phase_of d.counts.mutators d.calls End ∷ [];
 }
 
--- the first line behind `end` that is not skipped or lacks its end of line, where there is one; behind the last end of
+-- the first line after `end` that is not skipped or lacks its end of line, where there is one; after the last end of
 -- line nothing stands
 abbrev pub bad_after : ℕ → List (List ℕ) → Option ℕ
 bad_after n [] = Some n
@@ -95,7 +95,7 @@ bad_after n (piece ∷ rest) =
 abbrev pub end_at : Script → ℕ → List (List ℕ) → Result Script ScriptErr
 end_at script n rest = option_map_or (λ bad. Err (refusal.BadLine bad)) (bad_after n rest) (Ok script)
 
--- what follows a line by what it says: its refusal, the end, or the lines behind it
+-- what follows a line by what it says: its refusal, the end, or the lines after it
 abbrev pub go_on : ℕ → Result Line Fault → Result Script ScriptErr → (Line → Result Script ScriptErr)
     → Result Script ScriptErr
 go_on n (Err fault) at_end onward = Err (refusal_at n fault)

@@ -8,7 +8,7 @@ use Rattle.plain_table.specs.declared.scripts.Limits.{Limits}
 use Rattle.script_reader.specs.declared.header.Header.{Header}
 use Rattle.script_reader.specs.Spelling.{words, small_of, when}
 
--- the small number behind a name and `=`
+-- the small number after a name and `=`
 abbrev pub named : List ℕ → List ℕ → Option ℕ
 named name word = if starts_with nat_eq word name then small_of (drop (length name) word) else None
 

@@ -1,4 +1,4 @@
--- What a line says behind the header, given what stands before it: an operation of a mutator, a meet or the end; or
+-- What a line says after the header, given what stands before it: an operation of a mutator, a meet or the end; or
 -- the first of its faults, in the order in which they are tested.
 use Rattle.std.specs.Prelude.{ℕ, ◌==◌, nat_lt, if◌then◌else◌, Bool, true, not, List, [], ◌∷◌, codes, Option, Some, None, Result, Ok, Err}
 use Rattle.std.specs.Option.{option_map_or}

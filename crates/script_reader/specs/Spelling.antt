@@ -19,7 +19,7 @@ digit_of byte =
     if nat_le 48 byte && nat_lt byte 58 then Some (byte - 48)
     else (if nat_le 97 byte && nat_lt byte 103 then Some (byte - 87) else None)
 
--- the number that digits of a base spell behind those that spell n
+-- the number that digits of a base spell after those that spell n
 abbrev pub number_onto : ℕ → ℕ → List ℕ → Option ℕ
 number_onto base n [] = Some n
 number_onto base n (byte ∷ bytes) =

@@ -74,14 +74,14 @@ pub record IsValidPhase (version mutators : ℕ) (phase : Phase) : Type 0 where
   pub lists : length phase.calls ≡ mutators
   pub each : All (All (IsValidOp version)) phase.calls
 
--- whether a cycle is under way behind a meet that may stand there; the end is no meet between phases
+-- whether a cycle is under way after a meet that may stand there; the end is no meet between phases
 abbrev pub meet_after : Bool → Meet → Option Bool
 meet_after cycle Plain = Some cycle
 meet_after false (Start policy) = Some true
 meet_after true Finish = Some false
 meet_after _ _ = None
 
--- the same behind the meets of some phases
+-- the same after the meets of some phases
 abbrev pub meets_after : Bool → List Phase → Option Bool
 meets_after cycle [] = Some cycle
 meets_after cycle (phase ∷ phases) =

@@ -13,7 +13,7 @@ use plain_table::{Limits, Meet, Op, Phase, Script};
 use sqlite_items::Items;
 use std::alloc::{AllocError, Global};
 
-/// The phases that have ended, the operations behind them, and the counts.
+/// The phases that have ended, the operations after them, and the counts.
 #[derive(Debug, Drop)]
 pub struct Draft {
     pub phases: Items<Phase>,
@@ -46,7 +46,7 @@ fn lists(alloc: Global, mutators: u32, calls: &[Call]) -> Result<Items<Items<Op>
 }
 
 impl Draft {
-    /// Nothing is read behind the header (`opening`).
+    /// Nothing is read after the header (`opening`).
     pub fn new(alloc: Global, header: Header) -> Draft
         requires { IsVersion header.version }
         ensures value { result ≡ opening header }
@@ -65,7 +65,7 @@ impl Draft {
         }
     }
 
-    /// The draft behind an operation (`with_call`). The only error is want of memory.
+    /// The draft after an operation (`with_call`). The only error is want of memory.
     fn with_call(self, limits: Limits, call: Call) -> Result<Draft, AllocError>
         requires draft { IsDraft limits self }
         requires call { IsCall self.counts.version limits.mutators call }
@@ -90,7 +90,7 @@ impl Draft {
         })
     }
 
-    /// The draft behind a meet (`with_meet`). The only error is want of memory.
+    /// The draft after a meet (`with_meet`). The only error is want of memory.
     fn with_meet(self, alloc: Global, limits: Limits, meet: Meet) -> Result<Draft, AllocError>
         requires draft { IsDraft limits self }
         requires meet { IsLine self.counts (Line.Meeting meet) }
@@ -115,7 +115,7 @@ impl Draft {
         })
     }
 
-    /// The draft behind a line that is not the end (`with_line`). The only error is want of memory.
+    /// The draft after a line that is not the end (`with_line`). The only error is want of memory.
     pub fn with_line(self, alloc: Global, limits: Limits, line: Line) -> Result<Draft, AllocError>
         requires draft { IsDraft limits self }
         requires line { IsLine self.counts line }
@@ -155,7 +155,7 @@ impl Draft {
     }
 }
 
-/// Whether a cycle is under way behind a meet (`cycle_after`).
+/// Whether a cycle is under way after a meet (`cycle_after`).
 fn is_cycle_after(cycle: bool, meet: Meet) -> bool
     ensures { result ≡ cycle_after cycle meet }
 {

@@ -260,7 +260,7 @@ fn ranged_number(bound: u32, word: &[u8]) -> Result<u32, Fault>
     }
 }
 
-/// What a word says at a place, beside what the other places say (`read_at`).
+/// What a word says at a place, besides what the other places say (`read_at`).
 fn read_at(version: u32, place: Place, word: &[u8], said: Said) -> Result<Said, Fault>
     requires { IsSaid version said }
     ensures value { result ≡ read_at version place word.now said }
@@ -323,7 +323,7 @@ fn read_range(version: u32, word: &[u8], said: Said) -> Result<Said, Fault>
     })
 }
 
-/// Of a place's fault and the one of the places behind it, where they have one, the one that is tested first
+/// Of a place's fault and the one of the places after it, where they have one, the one that is tested first
 /// (`first_of`).
 fn first_fault(fault: Fault, onward: Result<Said, Fault>) -> Fault
     ensures { result ≡ first_of fault onward }

@@ -28,7 +28,7 @@ fn read_version(word: &[u8]) -> Option<u32>
     }
 }
 
-/// The small number behind a name, with which the word must begin (`named`). The name has its `=` at the end.
+/// The small number after a name, with which the word must begin (`named`). The name has its `=` at the end.
 fn named_number(name: &[u8], word: &[u8]) -> Option<u64>
     ensures { result ≡ named name.now word.now }
 {
@@ -110,7 +110,7 @@ struct HeaderWords<'a> {
 }
 
 impl HeaderWords<'_> {
-    /// The six numbers, each behind its name. `None` where one of them is missing or misspelled.
+    /// The six numbers, each after its name. `None` where one of them is missing or misspelled.
     fn numbers(&self) -> Option<Numbers>
         ensures value { IfSome result (λ n. limits_of_numbers self.now.seg.now self.now.ext.now self.now.tru.now
             self.now.objects.now self.now.mutators.now self.now.markers.now

@@ -1,4 +1,4 @@
-// The lines behind the header. Each function computes the definition of `specs/Lines.antt` that its contract names.
+// The lines after the header. Each function computes the definition of `specs/Lines.antt` that its contract names.
 ghost use Rattle.std.specs.Prelude.{◌≡◌, ◌<◌, [], ◌∷◌, IfOk, Some, true};
 ghost use Rattle.std.specs.Option.{option_map_or};
 ghost use Rattle.script_reader.specs.Grammar.{cycle_after};
@@ -55,7 +55,7 @@ pub fn is_blank(line: &[u8]) -> bool
     }
 }
 
-/// Reads `m`, a mutator's number, and behind it an operation (`operation_line`).
+/// Reads `m`, a mutator's number, and after it an operation (`operation_line`).
 fn read_call(counts: Counts, mutator: &[u8], rest: Option<&[u8]>) -> Result<Line, Fault>
     ensures value { result ≡ operation_line counts mutator.now (option_map_or (λ r. words r.now) rest.entry []) }
     ensures valid { IfOk result (IsLine counts) }
@@ -145,7 +145,7 @@ fn start_by(counts: Counts, policy: &[u8]) -> Result<Line, Fault>
     }
 }
 
-/// Reads what stands behind `start` (`start_line`).
+/// Reads what stands after `start` (`start_line`).
 fn read_start(counts: Counts, rest: Option<&[u8]>) -> Result<Line, Fault>
     ensures value { result ≡ start_line counts (option_map_or (λ r. words r.now) rest.entry []) }
     ensures valid { IfOk result (IsLine counts) }

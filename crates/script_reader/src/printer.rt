@@ -1,5 +1,5 @@
 // The canonical text of a script, appended to one `String` piece by piece. What stands where is defined in
-// `specs/Canonical.antt`; each word of an operation stands behind a space.
+// `specs/Canonical.antt`; each word of an operation stands after a space.
 ghost use Rattle.std.specs.Prelude.{◌≡◌, ℕ, ◌++◌, ◌<◌, [], ◌∷◌, codes, IfOk, OnOk, string_bytes};
 ghost use Rattle.std.specs.List.{All, flat_map};
 ghost use Rattle.std.specs.Fmt.{decimal};

@@ -16,7 +16,7 @@ use std::alloc::Global;
 /// A text of fewer bytes has a number of 32 bits for each line.
 const MOST_BYTES: usize = 0xffff_ffff;
 
-/// The first line behind `end`, with which `first` begins to count, that may not stand there (`bad_after`).
+/// The first line after `end`, with which `first` begins to count, that may not stand there (`bad_after`).
 fn bad_line(after: &[u8], first: u32) -> Option<u32>
     requires { first + length after.now < 2 ^ 32 }
     ensures { result ≡ bad_after first (pieces after.now) }
@@ -33,7 +33,7 @@ fn bad_line(after: &[u8], first: u32) -> Option<u32>
     if rest.is_empty() { None } else { Some(line) }
 }
 
-/// Ends a script behind its line `end` (`end_at`): `line` is the number of the line after it, and `after` the text
+/// Ends a script after its line `end` (`end_at`): `line` is the number of the line after it, and `after` the text
 /// there.
 fn finish(
     alloc: Global,
@@ -56,7 +56,7 @@ fn finish(
     }
 }
 
-/// Reads the lines behind the header (`lines_from`), of which the first has this number.
+/// Reads the lines after the header (`lines_from`), of which the first has this number.
 fn read_lines(alloc: Global, header: Header, lines: &[u8], first: u32) -> Result<Script, ScriptErr>
     requires short { first + length lines.now < 2 ^ 32 }
     requires header { IsValidHeader header }

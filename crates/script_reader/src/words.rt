@@ -49,7 +49,7 @@ pub fn split_line(text: &[u8]) -> Option<(&[u8], &[u8])>
     split_at_byte(text, b'\n')
 }
 
-/// The first word of a line, and what follows its space. `None` behind it where it is the only one.
+/// The first word of a line, and what follows its space: `None` where it is the only word.
 pub fn next_word(line: &[u8]) -> (&[u8], Option<&[u8]>)
     ensures { words line.now ≡ result.0.now ∷ option_map_or (λ r. words r.now) result.1 [] }
 {

@@ -62,8 +62,8 @@ module _ (p : Space) (i : ℕ) where
   named_at_mark None q j stands h same = absurd h
   named_at_mark (Some c) q j stands h same = subst₂ (λ (r : Space) (k : ℕ). IsNamed c r k) same.0 same.1 h.1
 
-  -- behind an event beside others an index is marked only where it was, or the event writes there, or a word that stood
-  -- in a field names it
+  -- after an event concurrent with others an index is marked only where it was, or the event writes there, or a word
+  -- that stood in a field names it
   GoesOn-row : (s : Table) (b : ℕ) (a : Act) → IsDuringPhase a → (row s b a).allowed →
       GoesOn s.cycle (row s b a).next.cycle p i (Writes a p i ⊎ IsNamedIn s.cycle p i)
   GoesOn-row s b (New var) during k =
@@ -103,7 +103,7 @@ module _ (p : Space) (i : ℕ) where
   IsNamedIn-after (e ∷ es) s legal during h =
       IsNamedIn-after es (next s e) legal.1 during.1 ((GoesOn-row s e.by e.act during.0 legal.0.0).names h)
 
-  -- a mark behind a history stood before it, or has its cause
+  -- a mark after a history stood before it, or has its cause
   IsMarkedIn-after : (es : List Event) (s : Table) → IsLegalHistory s es → AreDuringPhase es → IsMarkedIn (after s es).cycle p i →
       IsMarkedIn s.cycle p i ⊎ HasCause s es p i
   IsMarkedIn-after [] s legal during h = inl h

@@ -1,5 +1,5 @@
--- Steadiness of the cells: behind an event beside the cycle's start and finish each cell stands where it stood, with its
--- id and tag; only a put makes one, only a publish shows one, and one that changes in a cycle is marked.
+-- Steadiness of the cells: after an event other than the cycle's start and finish each cell stands where it stood, with
+-- its id and tag; only a put makes one, only a publish shows one, and one that changes in a cycle is marked.
 use Rattle.std.proofs.Common.{◌≡◌, ℕ, true, Option, Some, None, IsTrue, IsSome, IsSomeAnd, refl, sym, ap, ◌∙◌, subst, subst₂, ap₂, ◌==◌, inl, inr, option_map, IfSome}
 use Rattle.std.specs.Prelude.{◌⊎◌, nat_lt}
 use Rattle.plain_table.specs.declared.events.Act.{Act}
@@ -22,7 +22,7 @@ use Rattle.plain_table.proofs.PlaceReads.{read_entry, put_entry-same}
 use Rattle.plain_table.proofs.Options.{IsSome-none, IsSomeAnd-by, option_map-none}
 use Rattle.plain_table.proofs.Branches.{if_either, with_taken_either}
 
--- an id that stood at a place stands there behind an event that keeps its cell
+-- an id that stood at a place stands there after an event that keeps its cell
 pub id-stays : (o now : Option Cell) (n : ℕ) → ((c : Cell) → o ≡ Some c → IsSomeAnd now (λ d. (d.id ≡ c.id) × (d.tag ≡ c.tag))) →
     option_map (λ (cell : Cell). cell.id) o ≡ Some n → option_map (λ (cell : Cell). cell.id) now ≡ Some n
 id-stays None now n stay e = absurd (cc)

@@ -1,4 +1,4 @@
--- What claims are behind a claim that is given up or made.
+-- What claims are after a claim that is given up or made.
 use Rattle.std.proofs.Common.{◌≡◌, ◌≢◌, ℕ, Bool, false, Option, refl, sym, ◌∙◌, inl, inr, true≢false, IsTrue}
 use Rattle.std.proofs.lemmas.Bool.{cases_Bool, false_from_ne_true}
 use Rattle.plain_table.specs.declared.events.Space.{Space}

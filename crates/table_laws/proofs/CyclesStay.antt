@@ -1,4 +1,4 @@
--- Steadiness of the cycle: behind an event beside its start and finish it is under way where it was, and its marks,
+-- Steadiness of the cycle: after an event other than its start and finish it is under way where it was, and its marks,
 -- entries, births, scans, touched words and an abort stay.
 use Rattle.std.proofs.Common.{◌≡◌, ℕ, Option, Some, None, option_map, ◌∙◌, subst, inl, inr}
 use Rattle.std.specs.Prelude.{nat_lt, ◌==◌}

@@ -1,5 +1,6 @@
--- Steadiness of the sizes, the fields and the references: an event beside the cycle's start and finish changes no size,
--- changes a field's word only by a bind that says ok or where the field is then not bound, and a reference only by a link.
+-- Steadiness of the sizes, the fields and the references: an event other than the cycle's start and finish changes no
+-- size, changes a field's word only by a bind that says ok or where the field is then not bound, and a reference only
+-- by a link.
 use Rattle.std.proofs.Common.{◌≡◌, ℕ, ◌==◌, nat_lt, Bool, if◌then◌else◌, None, refl, ap, ◌∙◌, inl, inr}
 use Rattle.plain_table.specs.declared.events.Act.{Act}
 use Rattle.plain_table.specs.declared.events.Act.TheVariants.{New, Link, Take, Below, Bind, Forge, Start, Finish}

@@ -1,5 +1,5 @@
 -- Laws of the finish: it can't be refused once each reachable object was scanned or is born in the cycle, a target is the
--- greatest of its entries, each index behind it holds the cell whose place it is, and cells of the area move to their
+-- greatest of its entries, after it each index holds the cell whose place it is, and cells of the area move to their
 -- targets.
 use Rattle.std.proofs.Common.{◌≡◌, ℕ, ◌<◌, ◌≤◌, ◌==◌, Bool, true, false, Option, Some, None, refl, sym, ◌∙◌, ap, subst, inl, inr, arith, leb-false, eq-eqb}
 use Rattle.std.specs.Prelude.{if◌then◌else◌, is_some, IsTrue}

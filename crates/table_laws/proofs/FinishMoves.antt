@@ -1,5 +1,5 @@
 -- Where the cells of a finish go, in parts: what it says that an index has a target, a place or a source, and that what
--- stands at an index behind the finish stood at just the index whose place it is.
+-- stands at an index after the finish stood at just the index whose place it is.
 use Rattle.std.proofs.Common.{◌≡◌, ◌≢◌, ◌⊎◌, ℕ, ◌<◌, ◌≤◌, ◌==◌, Bool, true, false, ◌&&◌, Option, Some, None, refl, sym, ◌∙◌, ap, subst, inl, inr, leb-true, le-leb, lt-ltb, eqb-true, eq-eqb}
 use Rattle.std.specs.Prelude.{if◌then◌else◌, is_some, unwrap_or, nat_lt, IsTrue, IsSome}
 use Rattle.std.specs.Option.{option_map, option_map_or, option_and_then}
@@ -236,7 +236,7 @@ module _ (s : Table) (c : Cycle) (h : IsSound s) (is : s.cycle ≡ Some c) where
       (lt-ltb e (limit_of s p) (h.used.below p e (place-used p i e at).0))
       ∙ ap (option_and_then (s.cells p)) (place-source p i e at)
 
--- a cell that stands at e behind the finish stood at an index whose place e is
+-- a cell that stands at e after the finish stood at an index whose place e is
 pub record CameFrom (s : Table) (c : Cycle) (p : Space) (e : ℕ) (cell : Cell) : Type 0 where
   pub index : ℕ
   pub place_is : place c s.words p index ≡ Some e
@@ -248,7 +248,7 @@ swept-from s c p e cell is =
     (if-some (nat_lt e (limit_of s p)) (option_and_then (s.cells p) (source c s.words p e)) cell is).1
     (λ i source_is cell_is. record { index = i; place_is = source-place c s.words p e i source_is; cell_is = cell_is })
 
--- an id behind the finish is that of an index whose place it is
+-- an id after the finish is that of an index whose place it is
 pub id_at-finished : (s : Table) (c : Cycle) (p : Space) (e n : ℕ) → id_at (finished s c) p e ≡ Some n →
     (i : ℕ) × (place c s.words p i ≡ Some e) × (id_at s p i ≡ Some n)
 id_at-finished s c p e n is =

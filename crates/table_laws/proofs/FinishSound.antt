@@ -22,7 +22,7 @@ use Rattle.plain_table.proofs.CycleParts.{CycleSound-is}
 use Rattle.table_laws.proofs.FinishMoves.{named, target-is, target-outside, place-is, place-used, swept-place, swept-from, id_at-finished}
 use Rattle.plain_table.proofs.Options.{IsSome-value, is_some-option_map}
 
--- a used index behind the finish was used before
+-- a used index after the finish was used before
 swept-used : (s : Table) (c : Cycle) → IsSound s → s.cycle ≡ Some c → (p : Space) (i : ℕ) → IsSome (swept s c p i) → IsTrue (s.used p i) × (i ≢ 0)
 swept-used s c h is p i some =
     let found = IsSome-value (swept s c p i) some in
@@ -71,7 +71,7 @@ CellsSound-finish s c h is can = record {
   seen = λ i cell there. let came = swept-from s c External i cell there in h.cells.seen came.index cell came.cell_is;
 }
 
--- a word behind the finish is the one that was there, or the word of the target of its index
+-- a word after the finish is the one that was there, or the word of the target of its index
 rewritten-by : (test : Bool) (found : Option ℕ) (word : ℕ) → ((if test then option_map_or word_of found word else word) ≡ word)
     ⊎ ((e : ℕ) × (found ≡ Some e) × ((if test then option_map_or word_of found word else word) ≡ word_of e))
 rewritten-by true None word = inl refl
@@ -166,7 +166,7 @@ FieldsSound-finish s c h is can = record {
   settled = λ o b reach held. refl;
 }
 
--- a ticket behind the finish was one before, and its cell is kept
+-- a ticket after the finish was one before, and its cell is kept
 ticket_kept-is : (s : Table) (c : Cycle) (found : Option ℕ) (i : ℕ) → ticket_kept s c found ≡ Some i → (found ≡ Some i) × IsSome (swept s c Trusted i)
 ticket_kept-is s c None i is = absurd (cc)
 ticket_kept-is s c (Some j) i is =

@@ -1,5 +1,5 @@
--- A live holder stays one: its field stays bound until it is forged, and its cell can be seen behind each event, since an
--- event beside others leaves it where it stands and a finish keeps it.
+-- A live holder stays one: its field stays bound until it is forged, and its cell can be seen after each event, since an
+-- event concurrent with others leaves it where it stands and a finish keeps it.
 use Rattle.std.proofs.Common.{◌≡◌, ℕ, true, Option, Some, None, IsTrue, IsSomeAnd, refl, sym, ◌∙◌, ap, subst, inl, inr, option_map, eqb-true}
 use Rattle.std.specs.Prelude.{◌⊎◌, nat_lt, ◌==◌}
 use Rattle.std.proofs.lemmas.Option.{same_Some}
@@ -62,7 +62,7 @@ module _ (s : Table) (f : Field) (id : ℕ) (h : IsSound s) (reach : IsReachable
   bound-row b Finish = inl (finished_in_either (λ t. t.bound f ≡ Some id) s s.cycle bound (λ c. bound))
   bound-row b _ = inl bound
 
--- a cell that can be seen is seen behind an event beside others
+-- a cell that can be seen is seen after an event concurrent with others
 seen-during : (s : Table) (b : ℕ) (a : Act) (said : Reply) (p : Space) (i : ℕ) (c : Cell) → IsSound s →
     IsLegal s (record { by = b; act = a; said = said }) → IsDuringPhase a → s.cells p i ≡ Some c → IsTrue c.shown →
     IsSomeAnd ((row s b a).next.cells p i) (λ d. (d.id ≡ c.id) × IsTrue d.shown)
@@ -118,7 +118,7 @@ finished_in-seen : (s : Table) (cycle : Option Cycle) (f : Field) (id : ℕ) →
 finished_in-seen s None f id h past reach bound live = live
 finished_in-seen s (Some c) f id h past reach bound live = seen-finish s c f id h past reach bound live
 
--- an act is beside others, or the start or the finish of a cycle
+-- an act is concurrent with others, or the start or the finish of a cycle
 data Kind (a : Act) : Type 0 where
   During : IsDuringPhase a → Kind a
   Starts : (policy : Policy) → a ≡ Start policy → Kind a
@@ -129,7 +129,7 @@ kind_of (Start policy) = Starts policy refl
 kind_of Finish = Ends refl
 kind_of _ = During tt
 
--- the cell of a live holder can be seen behind an event
+-- the cell of a live holder can be seen after an event
 seen-row : (s : Table) (b : ℕ) (a : Act) (said : Reply) (f : Field) (id : ℕ) → IsSound s → IsLegal s (record { by = b; act = a; said = said }) →
     IsLiveHolder s f id → CanBeSeen (row s b a).next id
 seen-row s b a said f id h legal live = elim (kind_of a) [

@@ -1,4 +1,4 @@
--- The ids of the cells behind an event: a put has a new one at its index, and a store and a publish leave all as they are.
+-- The ids of the cells after an event: a put has a new one at its index, and a store and a publish leave all as they are.
 use Rattle.std.proofs.Common.{◌≡◌, ℕ, ◌==◌, true, Option, Some, refl, sym, ap, ap₂, ◌∙◌, subst, inl, inr, is_some, IsSome, None}
 use Rattle.std.specs.Prelude.{◌&&◌}
 use Rattle.std.specs.Option.{option_map}
@@ -39,7 +39,7 @@ module _ (s : Table) (b : ℕ) (p : Space) (i tag value : ℕ) where
       subst (λ (ids : Space → ℕ → Option ℕ). Read ((p ≡ q) × (i ≡ j)) (ids q j) (Some s.next) (id_at s q j)) (sym id_at-with_cell)
       (read_entry (Some s.next) (id_at s) p i q j)
 
-  -- an id stays behind a put into an empty index
+  -- an id stays after a put into an empty index
   pub id_at-with_cell-stays : id_at s p i ≡ None → (q : Space) (j n : ℕ) → id_at s q j ≡ Some n → id_at (with_cell s b p i tag value) q j ≡ Some n
   id_at-with_cell-stays empty q j n e = elim (read_id_at-with_cell q j) [
     | inl r ↦ absurd (IsSome-none (id_at s q j) (sym (ap₂ (id_at s) r.0.0 r.0.1) ∙ empty) (ap is_some e))

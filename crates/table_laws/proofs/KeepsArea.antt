@@ -1,4 +1,4 @@
--- Behind each event the area of a cycle begins at a segment in use, from the second one on, only a cycle with an area is
+-- After each event the area of a cycle begins at a segment in use, from the second one on, only a cycle with an area is
 -- aborted, and each evacuation entry stands below the area for a field of an old object, which counts as visited.
 use Rattle.std.proofs.Common.{◌≡◌, ◌≢◌, ℕ, zero, suc, ◌+◌, ◌-◌, ◌*◌, ◌/◌, ◌<◌, ◌≤◌, ◌==◌, nat_lt, Bool, true, false, if◌then◌else◌, Option, Some, None, unwrap_or, IsTrue, IsSome, IsSomeAnd, IfSome, refl, ap, ◌∙◌, sym, subst, inl, inr, arith, le_refl, le_trans, true≢false, mul-le-mul_right, div-mul-le_self}
 use Rattle.std.proofs.lemmas.Bool.Decides.{eqb_tells}
@@ -158,7 +158,7 @@ AreaIn-start s policy = record {
   visits = λ number e. absurd (cc);
 }
 
--- behind any event
+-- after any event
 pub AreaIn-next : (s : Table) (b : ℕ) (a : Act) → IsSound s → (row s b a).allowed → IfSome (row s b a).next.cycle (AreaIn (row s b a).next)
 AreaIn-next s b (New var) h k =
     if_either (λ t. IfSome t.cycle (AreaIn t)) (nat_lt s.count s.sizes.objects) (with_object s b var) s

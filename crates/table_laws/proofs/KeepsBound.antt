@@ -1,4 +1,4 @@
--- Behind each event the bound fields of the objects of a cycle have their own cells, and are safe once the object is
+-- After each event the bound fields of the objects of a cycle have their own cells, and are safe once the object is
 -- scanned or born.
 use Rattle.std.proofs.Common.{◌≡◌, ◌≢◌, ◌⊎◌, ℕ, ◌<◌, ◌==◌, nat_lt, Bool, true, if◌then◌else◌, Option, Some, None, IsTrue, IsSome, IfSome, refl, ◌∙◌, sym, subst, inl, inr, arith, ap}
 use Rattle.std.proofs.lemmas.Option.{IfSome_then}
@@ -75,7 +75,7 @@ module _ (c : Cycle) (ids : Space → ℕ → Option ℕ) (words : Field → ℕ
     ];
   }
 
-  -- what holds of a field's word and cell behind a change of a field
+  -- what holds of a field's word and cell after a change of a field
   read_both : (g : Field) (w : ℕ) (new : Option ℕ) (f : Field) (P : ℕ → Option ℕ → Type 0) → (g ≡ f → P w new) → P (words f) (bound f) →
       P (put_field words g w f) (put_field bound g new f)
   read_both g w new f P here there =
@@ -177,7 +177,7 @@ BoundIn-scan s o h k =
     (λ c d safe. BoundSound-scanned c (id_at s) s.words s.bound o
     (λ f e is. let found = IsSome-value (s.bound f) is in let held = safe f found.0 e found.1 in (held.1, held.2)) d.bound)
 
--- behind any event
+-- after any event
 pub BoundIn-next : (s : Table) (b : ℕ) (a : Act) → IsSound s → (row s b a).allowed → IfSome (row s b a).next.cycle (BoundIn (row s b a).next)
 BoundIn-next s b (New var) h k =
     if_either (λ t. IfSome t.cycle (BoundIn t)) (nat_lt s.count s.sizes.objects) (with_object s b var) s

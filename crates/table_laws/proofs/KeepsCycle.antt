@@ -1,4 +1,4 @@
--- Behind each event the cycle, where one is under way, is sound.
+-- After each event the cycle, where one is under way, is sound.
 use Rattle.std.proofs.Common.{ℕ, Option, Some, None, IfSome}
 use Rattle.plain_table.specs.declared.events.Act.{Act}
 use Rattle.plain_table.specs.Cycle.{Cycle}

@@ -1,4 +1,4 @@
--- The fields of reachable objects stay sound behind each act other than the finish of a cycle.
+-- The fields of reachable objects stay sound after each act other than the finish of a cycle.
 use Rattle.std.proofs.Common.{◌≡◌, ◌≢◌, ◌⊎◌, ◌<◌, ◌==◌, ℕ, Bool, true, false, Option, Some, None, refl, sym, ap, ◌∙◌, subst, inl, inr, nat_lt, if◌then◌else◌, IsTrue, IsSome, arith}
 use Rattle.plain_table.specs.declared.events.Act.{Act}
 use Rattle.plain_table.specs.declared.events.Act.TheVariants.{New, Drop, Get, Link, Take, Below, Abort, Put, Bind, Name, Look, Set, Swap, Forge, Publish, Mark, Evac, Scan, Start, Finish}
@@ -135,7 +135,7 @@ module _ {ids : Space → ℕ → Option ℕ} {fresh : ℕ → Space → ℕ →
 abbrev pub AreFieldsSound : Table → Type 0
 AreFieldsSound s = FieldsSound (id_at s) s.fresh s.words s.bound (IsReachable s)
 
--- behind a bind, with the test whether the field was empty
+-- after a bind, with the test whether the field was empty
 AreFieldsSound-bind : (s : Table) (b : ℕ) (f : Field) (w : ℕ) (test : Bool) → IsSound s → IsFreshBind s b f w ⊎ IsSharedBind s f w →
     AreFieldsSound (if test then with_bound s b f w else with_unbound s b f w)
 AreFieldsSound-bind s b f w false h may = FieldsSound-fresh (put_claim s.fresh b (space_of f) (index_of w) false) h.fields (put_claim-none s.fresh b (space_of f) (index_of w))

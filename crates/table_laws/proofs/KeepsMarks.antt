@@ -1,4 +1,4 @@
--- Behind each event only cells are marked, fresh ones are, and an external fresh one stands in the area only behind an
+-- After each event only cells are marked, fresh ones are, and an external fresh one stands in the area only after an
 -- abort.
 use Rattle.std.proofs.Common.{◌≡◌, ℕ, ◌≤◌, ◌==◌, nat_lt, Bool, true, false, if◌then◌else◌, Option, Some, None, is_some, IsTrue, IsSome, IfSome, refl, ap, ◌∙◌, sym, subst, inl, inr, leb-true}
 use Rattle.std.proofs.lemmas.Option.{IfSome_then}
@@ -73,7 +73,7 @@ module _ (ids : Space → ℕ → Option ℕ) (fresh : ℕ → Space → ℕ →
     outside = λ c j is from. refl;
   }
 
--- a put in the area comes behind an abort
+-- a put in the area comes after an abort
 is_from-put : (start : Option ℕ) (aborted : Bool) (i : ℕ) → IfSome start (λ first. first ≤ i → IsTrue aborted) → IsTrue (is_from start i) → IsTrue aborted
 is_from-put None aborted i may from = absurd (cc)
 is_from-put (Some first) aborted i may from = may (leb-true first i from)
@@ -132,7 +132,7 @@ id_at-ticket : (s : Table) (b i : ℕ) → IsSound s → s.ticket b ≡ Some i �
 id_at-ticket s b i h e =
     is_some-option_map (λ (cell : Cell). cell.id) (s.cells Trusted i) ∙ IsSomeAnd-some (s.cells Trusted i) (λ c. c.shown ≡ false) (h.tickets.hidden b i e)
 
--- behind any event
+-- after any event
 pub MarksIn-next : (s : Table) (b : ℕ) (a : Act) → IsSound s → (row s b a).allowed → IfSome (row s b a).next.cycle (MarksIn (row s b a).next)
 MarksIn-next s b (New var) h k =
     if_either (λ t. IfSome t.cycle (MarksIn t)) (nat_lt s.count s.sizes.objects) (with_object s b var) s

@@ -1,4 +1,4 @@
--- The tickets stay sound behind each act other than the finish of a cycle.
+-- The tickets stay sound after each act other than the finish of a cycle.
 use Rattle.std.proofs.Common.{◌≡◌, ◌⊎◌, ◌==◌, ℕ, Bool, true, false, Option, Some, None, refl, sym, ap, ◌∙◌, subst, true≢false, inl, inr, nat_lt, if◌then◌else◌, IsTrue, option_map, ◌<◌}
 use Rattle.std.proofs.lemmas.Option.{none-some, same_Some}
 use Rattle.plain_table.specs.declared.events.Act.{Act}
@@ -136,7 +136,7 @@ AreTicketsSound-put s b Trusted i tag value h owed =
       | inr other ↦ inr (λ at. other.0 (refl, at), other.1)
     ])
 
--- behind a bind into an empty trusted field, with the test whether its cell was fresh
+-- after a bind into an empty trusted field, with the test whether its cell was fresh
 AreTicketsSound-fresh : (s : Table) (b i : ℕ) (test : Bool) → b < 8 → IsSound s → s.fresh b Trusted i ≡ test →
     TicketsSound (s.cells Trusted) (put_claim s.fresh b Trusted i false) (if test then put_at s.ticket b (Some i) else s.ticket)
 AreTicketsSound-fresh s b i true low h own =
@@ -144,7 +144,7 @@ AreTicketsSound-fresh s b i true low h own =
     (λ c j. put_claim-was s.fresh b Trusted i c Trusted j)
 AreTicketsSound-fresh s b i false low h none = TicketsSound-fresh (put_claim s.fresh b Trusted i false) h.tickets (λ c j. put_claim-was s.fresh b Trusted i c Trusted j)
 
--- behind a bind, with the test whether the field was empty
+-- after a bind, with the test whether the field was empty
 AreTicketsSound-bind : (s : Table) (b : ℕ) (f : Field) (w : ℕ) (test : Bool) → b < 8 → IsSound s → AreTicketsSound (if test then with_bound s b f w else with_unbound s b f w)
 AreTicketsSound-bind s b f w false low h =
     TicketsSound-fresh (put_claim s.fresh b (space_of f) (index_of w) false) h.tickets (λ c j. put_claim-was s.fresh b (space_of f) (index_of w) c Trusted j)

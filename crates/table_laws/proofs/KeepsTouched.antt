@@ -1,4 +1,4 @@
--- Behind each event the words of the objects of a cycle are touched.
+-- After each event the words of the objects of a cycle are touched.
 use Rattle.std.proofs.Common.{◌≢◌, ℕ, ◌<◌, ◌==◌, nat_lt, Bool, true, Option, IsTrue, IfSome, refl, ap, ◌∙◌, sym, subst, inl, inr, arith, ◌≡◌}
 use Rattle.std.proofs.lemmas.Option.{IfSome_then}
 use Rattle.plain_table.specs.declared.events.Act.{Act}
@@ -73,7 +73,7 @@ TouchedIn-bound : (s : Table) (b : ℕ) (f : Field) (w : ℕ) → IsSound s → 
 TouchedIn-bound s b f w h =
     IfSome-changed (TouchedIn (with_bound s b f w)) s.cycle h.cycle (λ c d. TouchedSound-touched c s.words f w d.touched)
 
--- behind any event
+-- after any event
 pub TouchedIn-next : (s : Table) (b : ℕ) (a : Act) → IsSound s → (row s b a).allowed → IfSome (row s b a).next.cycle (TouchedIn (row s b a).next)
 TouchedIn-next s b (New var) h k =
     if_either (λ t. IfSome t.cycle (TouchedIn t)) (nat_lt s.count s.sizes.objects) (with_object s b var) s

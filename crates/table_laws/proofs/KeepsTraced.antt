@@ -1,4 +1,4 @@
--- Behind each event the objects of a cycle are made, none is both old and born, only old ones are scanned, and what a
+-- After each event the objects of a cycle are made, none is both old and born, only old ones are scanned, and what a
 -- variable, a global or a reference of one of them holds is one of them.
 use Rattle.std.proofs.Common.{◌≡◌, ◌≢◌, ◌⊎◌, ℕ, ◌+◌, ◌<◌, ◌==◌, nat_lt, Bool, true, Option, Some, None, IsTrue, IfSome, refl, ◌∙◌, sym, subst, inl, inr, arith}
 use Rattle.std.proofs.lemmas.Option.{IfSome_then}
@@ -150,7 +150,7 @@ TracedIn-scan s o h is =
     IfSome-changed_by (TracedIn s) s.cycle h.cycle is
     (λ c d old. TracedSound-scanned s.count (IsOld c) c.born c.scans s.refs s.globals s.vars o old d.traced)
 
--- behind any event
+-- after any event
 pub TracedIn-next : (s : Table) (b : ℕ) (a : Act) → IsSound s → (row s b a).allowed → IfSome (row s b a).next.cycle (TracedIn (row s b a).next)
 TracedIn-next s b (New var) h k =
     if_either (λ t. IfSome t.cycle (TracedIn t)) (nat_lt s.count s.sizes.objects) (with_object s b var) s

@@ -38,7 +38,7 @@ UsedSound-with_taken s b p None is h = h
 UsedSound-with_taken s b p (Some i) is h =
     let free = least_free-some s p i (is i refl) in UsedSound-take h b p i free.0 free.1 free.2
 
--- entries behind a change that leaves them alone
+-- entries after a change that leaves them alone
 entries_in-changed : (cycle : Option Cycle) (change : Cycle → Cycle) → ((c : Cycle) → (change c).evac ≡ c.evac) →
     entries_in (option_map change cycle) ≡ entries_in cycle
 entries_in-changed None change same = refl

@@ -1,4 +1,4 @@
--- A field into which a bind writes needs no evacuation entry: a fresh cell stands in the area only behind an abort, which
+-- A field into which a bind writes needs no evacuation entry: a fresh cell stands in the area only after an abort, which
 -- moves none, and a shared cell is trusted.
 use Rattle.std.proofs.Common.{◌≡◌, ℕ, Bool, true, false, if◌then◌else◌, Option, None, IsTrue, refl, inl}
 use Rattle.std.proofs.lemmas.Bool.{false_from_ne_true}
@@ -11,7 +11,7 @@ use Rattle.plain_table.specs.Cycle.{Cycle, is_from}
 use Rattle.plain_table.specs.Rows.{IsPlaced}
 use Rattle.plain_table.specs.Sound.{MarksSound}
 
--- where an index is in the area only behind an abort, its cell does not move
+-- where an index is in the area only after an abort, its cell does not move
 is_from-aborted : (aborted : Bool) (start : Option ℕ) (j : ℕ) → (IsTrue (is_from start j) → IsTrue aborted) →
     is_from (if aborted then None else start) j ≡ false
 is_from-aborted true start j outside = refl

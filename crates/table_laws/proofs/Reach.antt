@@ -1,4 +1,4 @@
--- Reach: an object that can be reached behind an event could be reached before it, or was made by it.
+-- Reach: an object that can be reached after an event could be reached before it, or was made by it.
 use Rattle.std.proofs.Common.{◌≡◌, ◌⊎◌, ◌<◌, ◌==◌, ℕ, Bool, true, false, Option, Some, None, refl, sym, ap, ◌∙◌, subst, inl, inr, nat_lt, if◌then◌else◌, arith}
 use Rattle.plain_table.specs.declared.events.Act.{Act}
 use Rattle.plain_table.specs.declared.events.Act.TheVariants.{New, Drop, Get, Link, Take, Below, Abort, Put, Bind, Name, Look, Set, Swap, Forge, Publish, Mark, Evac, Scan, Start, Finish}
@@ -76,7 +76,7 @@ pub IsReachable-linked : (s : Table) (spot : Spot) (x : Option ℕ) → ((o : �
 IsReachable-linked s (Global g) x known o r = Reaches-put_global s.refs s.globals s.vars g x known o r
 IsReachable-linked s (Ref m k) x known o r = Reaches-put_reference s.refs s.globals s.vars m k x known o r
 
--- behind a new object, with the test whether there is room for it
+-- after a new object, with the test whether there is room for it
 IsReachable-new : (s : Table) (b var : ℕ) (test : Bool) → IsSound s → (o : ℕ) → IsReachable (if test then with_object s b var else s) o →
     IsReachable s o ⊎ ((if test then reply.Obj s.count else reply.HeapFull) ≡ reply.Obj o)
 IsReachable-new s b var false h o r = inl r

@@ -1,6 +1,6 @@
--- Steadiness of the rest: behind an event beside the cycle's start and finish used indexes stay used, an index becomes
--- fresh only by a put into an empty one, a bound field keeps its id and word while it is bound, and the objects and puts so
--- far grow.
+-- Steadiness of the rest: after an event other than the cycle's start and finish used indexes stay used, an index
+-- becomes fresh only by a put into an empty one, a bound field keeps its id and word while it is bound, and the objects
+-- and puts so far grow.
 use Rattle.std.proofs.Common.{◌≡◌, ◌≢◌, ℕ, ◌≤◌, true, Option, Some, None, IsTrue, IsSome, refl, sym, ◌∙◌, subst, inl, inr, arith, eqb-true}
 use Rattle.std.specs.Prelude.{◌⊎◌, nat_lt, ◌==◌}
 use Rattle.plain_table.specs.declared.events.Act.{Act}

@@ -58,7 +58,7 @@ IsPlaced-bind s b f w c marks is (inr shared) = (
 pub CycleSteady-of : (x y : Option Cycle) (c d : Cycle) → CyclesSteady x y → x ≡ Some c → y ≡ Some d → CycleSteady c d
 CycleSteady-of x y c d h p q = subst₂ CyclesSteady p q h
 
--- a field whose word stays is safe behind an event that it was safe before
+-- a field whose word stays is safe after an event that it was safe before
 pub IsSafe-stays : (s : Table) (e : Event) (t : Table) (c d : Cycle) (f : Field) (id : ℕ) → CellsSteady s e t → CycleSteady c d →
     t.words f ≡ s.words f → IsSafe s c f id → IsSafe t d f id
 IsSafe-stays s e t c d f id cells cycle same safe = (
@@ -69,7 +69,7 @@ IsSafe-stays s e t c d f id cells cycle same safe = (
   subst (λ w. IsPlaced d f (index_of w)) (sym same) (IsPlaced-stays c d f (index_of (s.words f)) cycle safe.2),
 )
 
--- each field that is bound behind it has its word of before
+-- each field that is bound afterwards has its word of before
 abbrev pub WordsStay : Table → Table → Type 0
 WordsStay s t = (f : Field) (id : ℕ) → t.bound f ≡ Some id → t.words f ≡ s.words f
 
@@ -132,7 +132,7 @@ pub said-taken : (test : Bool) (word : ℕ) (said : Reply) → test ≡ false �
 said-taken true word said e h ok = absurd (cc)
 said-taken false word said e h ok = absurd (cc)
 
--- an act that is no bind, behind which bound fields have their words of before
+-- an act that is no bind, after which bound fields have their words of before
 pub SafeSteady-still : (s : Table) (b : ℕ) (a : Act) (said : Reply) → IsSound s → IsLegal s (record { by = b; act = a; said = said }) →
     IsDuringPhase a → WordsStay s (row s b a).next → ((f : Field) (w : ℕ) → a ≡ Bind f w → ⊥) →
     SafeSteady s (record { by = b; act = a; said = said }) (row s b a).next

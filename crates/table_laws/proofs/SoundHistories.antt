@@ -1,4 +1,4 @@
--- Soundness over histories: each table behind a legal history of a sound table is sound, and so is each one behind a
+-- Soundness over histories: each table after a legal history of a sound table is sound, and so is each one after a
 -- legal history of an opening.
 use Rattle.std.specs.Prelude.{List, [], ◌∷◌}
 use Rattle.plain_table.specs.declared.events.Event.{Event}

@@ -1,4 +1,4 @@
--- Soundness is kept: each group of a sound table behind each legal event, put together.
+-- Soundness is kept: each group of a sound table after each legal event, put together.
 use Rattle.std.proofs.Common.{ℕ}
 use Rattle.plain_table.specs.declared.events.Act.{Act}
 use Rattle.plain_table.specs.declared.events.Act.TheVariants.{New, Drop, Get, Link, Take, Below, Abort, Put, Bind, Name, Look, Set, Swap, Forge, Publish, Mark, Evac, Scan, Start, Finish}

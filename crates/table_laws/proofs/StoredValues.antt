@@ -92,7 +92,7 @@ CellsStored-shown cells stored i (Some d) is h q j c e =
       | inr r ↦ h q j c (sym r.1 ∙ e)
     ]
 
--- each cell behind a finish stood somewhere before
+-- each cell after a finish stood somewhere before
 pub CellsStored-swept : (s : Table) (c : Cycle) (stored : Stored) → CellsStored s.cells stored → CellsStored (swept s c) stored
 CellsStored-swept s c stored h p e d is =
     let came = swept-from s c p e d is in h p came.index d came.cell_is

@@ -1,4 +1,4 @@
--- "No index twice" behind the changes of one index: taken by a number, filled by a put, and given to an evacuation entry.
+-- "No index twice" after the changes of one index: taken by a number, filled by a put, and given to an evacuation entry.
 use Rattle.std.proofs.Common.{◌≡◌, ◌≢◌, ℕ, ◌<◌, Bool, true, false, Option, Some, None, IsTrue, IsSome, refl, sym, subst, subst₂, ◌∙◌, true≢false, inl, inr}
 use Rattle.plain_table.specs.declared.events.Space.{Space}
 use Rattle.plain_table.specs.declared.events.Space.TheVariants.{External}

@@ -1,5 +1,5 @@
 -- Why a cell is kept: in its cycle it was put, stored to, exchanged or published, or a word that stood in a field of its
--- space named its index. A cause is told by the history since the start of the cycle and by the cycle's own record of
+-- space named its index. A cause is known from the history since the start of the cycle and the cycle's own record of
 -- words, so a finish keeps nothing that nothing named.
 use Rattle.std.specs.Prelude.{◌≡◌, ◌⊎◌, ℕ, List, [], ◌∷◌}
 use Rattle.plain_table.specs.declared.events.Act.{Act}
@@ -21,7 +21,7 @@ Writes (Swap word first last value) p i = (p ≡ External) × (index_of word ≡
 Writes (Publish j) p i = (p ≡ Trusted) × (j ≡ i)
 Writes _ p i = ⊥
 
--- each event stands beside the mutators' ones: the history neither starts nor finishes a cycle
+-- each event is concurrent with the mutators' ones: the history neither starts nor finishes a cycle
 abbrev pub AreDuringPhase : List Event → Type 0
 AreDuringPhase [] = Unit {0}
 AreDuringPhase (e ∷ es) = IsDuringPhase e.act × AreDuringPhase es
@@ -31,6 +31,6 @@ abbrev pub IsWrittenIn : List Event → Space → ℕ → Type 0
 IsWrittenIn [] p i = ⊥
 IsWrittenIn (e ∷ es) p i = Writes e.act p i ⊎ IsWrittenIn es p i
 
--- why an index may be marked behind a history since the start of its cycle
+-- why an index may be marked after a history since the start of its cycle
 abbrev pub HasCause : Table → List Event → Space → ℕ → Type 0
 HasCause s es p i = IsWrittenIn es p i ⊎ InCycle (after s es) (λ c. IsNamed c p i)

@@ -29,16 +29,16 @@ use Rattle.table_laws.specs.Steady.{IsDuringPhase, IsSteady}
 use Rattle.table_laws.specs.Stored.{stored_after, nothing_stored}
 use Rattle.table_laws.specs.Causes.{AreDuringPhase, HasCause}
 
--- soundness is kept: behind each legal event of any sound table stands a sound table
+-- soundness is kept: each legal event of any sound table leaves a sound table
 abbrev pub EventsKeepSoundness : Type 0
 EventsKeepSoundness = (s : Table) (e : Event) → IsSound s → IsLegal s e → IsSound (next s e)
 
--- so each table behind a legal history is sound
+-- so each table after a legal history is sound
 abbrev pub HistoriesAreSound : Type 0
 HistoriesAreSound =
     (limits : Limits) (es : List Event) → IsInRange limits → IsLegalHistory (opening limits) es → IsSound (after (opening limits) es)
 
--- steadiness: an event beside others leaves theirs alone
+-- steadiness: an event concurrent with others leaves theirs alone
 abbrev pub EventsAreSteady : Type 0
 EventsAreSteady = (s : Table) (e : Event) → IsSound s → IsLegal s e → IsDuringPhase e.act → IsSteady s e (next s e)
 
@@ -95,7 +95,7 @@ TargetsAreTheGreatest =
     (c : Cycle) (words : Field → ℕ) (i e : ℕ) →
     (target c words i ≡ Some e) ↔ (IsEntryFor c words i e × ((d : ℕ) → IsEntryFor c words i d → d ≤ e))
 
--- moves: behind a finish with an area and no abort each external cell stands below the start, and the cell of each index
+-- moves: after a finish with an area and no abort each external cell stands below the start, and the cell of each index
 -- with a target stands there, with its id, tag and value
 abbrev pub CellsMoveToTheirTarget : Type 0
 CellsMoveToTheirTarget =
@@ -103,7 +103,7 @@ CellsMoveToTheirTarget =
     ((e : ℕ) → IsSome ((finished s c).cells External e) → e < start)
     × ((i e : ℕ) → target c s.words i ≡ Some e → (finished s c).cells External e ≡ s.cells External i)
 
--- places: behind a finish an index holds just the cell whose place it is, and no two cells have one place
+-- places: after a finish an index holds just the cell whose place it is, and no two cells have one place
 abbrev pub CellsStandAtTheirPlace : Type 0
 CellsStandAtTheirPlace =
     (s : Table) (c : Cycle) (p : Space) → IsSound s → s.cycle ≡ Some c →
@@ -111,7 +111,7 @@ CellsStandAtTheirPlace =
     ((finished s c).cells p e ≡ Some cell) ↔ ((i : ℕ) × (place c s.words p i ≡ Some e) × (s.cells p i ≡ Some cell)))
     × ((i j e : ℕ) → place c s.words p i ≡ Some e → place c s.words p j ≡ Some e → i ≡ j)
 
--- reach: an object that can be reached behind an event could be reached before it, or was made by it
+-- reach: an object that can be reached after an event could be reached before it, or was made by it
 abbrev pub ReachOnlyGrowsByNew : Type 0
 ReachOnlyGrowsByNew =
     (s : Table) (e : Event) (o : ℕ) → IsSound s → IsLegal s e → IsReachable (next s e) o →

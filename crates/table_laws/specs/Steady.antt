@@ -15,7 +15,7 @@ use Rattle.plain_table.specs.Cycle.{Cycle}
 use Rattle.plain_table.specs.Table.{Table}
 use Rattle.plain_table.specs.Rows.{InCycle, IsSafe, object_in}
 
--- an event beside others: neither the start nor the finish of a cycle
+-- an event concurrent with others: neither the start nor the finish of a cycle
 abbrev pub IsDuringPhase : Act → Type 0
 IsDuringPhase (Start policy) = ⊥
 IsDuringPhase Finish = ⊥

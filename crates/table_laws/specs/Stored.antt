@@ -1,4 +1,4 @@
--- What was last stored in each cell, by the history alone: the tag and value of the put with an id, and behind it the
+-- What was last stored in each cell, by the history alone: the tag and value of the put with an id, and after it the
 -- value of each set or swap on the cell of that id. A finish may move the cell to another index; its id, and so what was
 -- stored in it, goes with it.
 use Rattle.std.specs.Prelude.{ℕ, List, [], ◌∷◌, Option, Some, None}
@@ -28,7 +28,7 @@ stored_next s (Set word first last value) stored = store_at stored (id_at s Exte
 stored_next s (Swap word first last value) stored = store_at stored (id_at s External (index_of word)) value
 stored_next s _ stored = stored
 
--- what was stored behind a history that begins at the table s
+-- what was stored after a history that begins at the table s
 abbrev pub stored_after : Table → List Event → Stored → Stored
 stored_after s [] stored = stored
 stored_after s (e ∷ es) stored = stored_after (next s e) es (stored_next s e.act stored)

@@ -34,12 +34,12 @@ pub fn fresh_images_show_the_opening()
     ensures { FreshImagesShowTheOpening }
 {}
 
-/// Behind each legal event of any sound table, a start or a finish included, stands a sound table.
+/// Each legal event of any sound table, a start or a finish included, leaves a sound table.
 pub fn events_keep_soundness()
     ensures { EventsKeepSoundness }
 {}
 
-/// Each table behind a legal history is sound.
+/// Each table after a legal history is sound.
 pub fn histories_are_sound()
     ensures { HistoriesAreSound }
 {}
@@ -80,18 +80,18 @@ pub fn targets_are_the_greatest()
     ensures { TargetsAreTheGreatest }
 {}
 
-/// Behind a finish with an area and no abort each external cell stands below the area, and each one that moved stands
+/// After a finish with an area and no abort each external cell stands below the area, and each one that moved stands
 /// at its target, with its id, tag and value.
 pub fn cells_move_to_their_target()
     ensures { CellsMoveToTheirTarget }
 {}
 
-/// Behind a finish an index holds just the cell whose place it is, and no two cells have one place.
+/// After a finish an index holds just the cell whose place it is, and no two cells have one place.
 pub fn cells_stand_at_their_place()
     ensures { CellsStandAtTheirPlace }
 {}
 
-/// An object that can be reached behind an event could be reached before it, or was made by it.
+/// An object that can be reached after an event could be reached before it, or was made by it.
 pub fn reach_only_grows_by_new()
     ensures { ReachOnlyGrowsByNew }
 {}

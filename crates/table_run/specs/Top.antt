@@ -1,5 +1,5 @@
--- What the top call answers and writes: the words that it knows, the exit status of each answer, and the text that
--- stands behind an answer to the bytes of a script.
+-- What the top call answers and writes: the words that it knows, the exit status of each answer, and the text of
+-- an answer to the bytes of a script.
 use Rattle.std.specs.Prelude.{◌≡◌, ℕ, ◌<◌, ◌≤◌, if◌then◌else◌, false, List, [], ◌∷◌, length, take, codes, Option, Some, None, Ok, Err, IsTrue}
 use Rattle.std.specs.Str.{bytes_eq}
 use Rattle.plain_table.specs.declared.scripts.Script.{Script}
@@ -78,7 +78,7 @@ pub record IsUnrunnable (form : Form) (bytes : List ℕ) (answer : Status) : Typ
   pub read : script_of bytes ≡ Ok script
   pub refused : can_run script ≡ false
 
--- the whole text of this answer was written behind what was written before
+-- the whole text of this answer was written after what was written before
 abbrev pub WroteAll : Form → List ℕ → Status → Option (List ℕ) → Option (List ℕ) → Type 0
 WroteAll form bytes answer old new = (text : List ℕ) × IsTextOf form bytes answer text × Took old text new
 
@@ -88,7 +88,7 @@ WrotePart form bytes old new =
     (answer : Status) × (text : List ℕ) × (n : ℕ) × IsTextOf form bytes answer text × (n < length text)
     × Took old (take n text) new
 
--- an answer behind which nothing is written
+-- an answer with which nothing is written
 abbrev pub IsSilent : Status → Type 0
 IsSilent status.Usage = Unit {0}
 IsSilent status.ReadFault = Unit {0}

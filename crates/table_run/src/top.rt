@@ -59,7 +59,7 @@ pub fn run_main<R: Threads + Sync, S: Source, K: Sink>(
         IfSome (S.left src.old) (λ all. IfSome (S.left src.new) (λ rest.
         (result ≡ Status.TooLong) ↔ (most_bytes + length rest < length all))) }
 
-    // What stands in the sink behind the other answers.
+    // What stands in the sink after the other answers.
     ensures cut_short { (form : Form) → form_of (map string_bytes args.now) ≡ Some form → result ≡ Status.WriteFault →
         IfSome (S.left src.old) (λ bytes. WrotePart form bytes (K.written out.old) (K.written out.new)) }
     ensures silent { IsSilent result → K.written out.new ≡ K.written out.old }
@@ -136,7 +136,7 @@ struct Answer {
     text: String,
 }
 
-/// Reads the script of these bytes, and does what the form asks for. The statuses that no text stands behind are errors.
+/// Reads the script of these bytes, and does what the form asks for. The statuses that have no text are errors.
 fn answer_to(alloc: Global, form: Form, bytes: &[u8]) -> Result<Answer, Status>
     ensures text { IfOk result (λ answer. IsTextOf form bytes.now answer.status (string_bytes answer.text)) }
     ensures named { IfOk result (λ answer. answer.status ≢ Status.Refused ScriptErr.OutOfMemory) }

@@ -1,4 +1,4 @@
--- The words of cells and of evacuation entries: behind a put, a store, an exchange, a publish, a mark and an evacuation
+-- The words of cells and of evacuation entries: after a put, a store, an exchange, a publish, a mark and an evacuation
 -- entry, the list with the new word at its index shows the table.
 use Rattle.std.proofs.Common.{◌≡◌, ◌≢◌, ℕ, Bool, true, List, slice_set, Option, Some, None, IsSome, IsSomeAnd, IsTrue, is_some, refl, sym, ap, subst, subst₂, ◌∙◌, inl, inr, arith}
 use Rattle.std.specs.Option.{option_map}
@@ -24,7 +24,7 @@ use Rattle.word_laws.proofs.ShownParts.{IsMarkIn, ShownParts-Shows, Shows-ShownP
 use Rattle.word_laws.proofs.WordChanges.{Changed, Changed-slice_set, AreWithin-HasSoundIndexes, no_cell-id}
 use Rattle.word_laws.proofs.EntryWords.{EntryTells, Shown-entry}
 
--- the marks behind a mark
+-- the marks after a mark
 IsMarkIn-marked : (cycle : Option Cycle) (p : Space) (i : ℕ) → IsMarkIn (marked_in cycle p i) p i true
 IsMarkIn-marked None p i = tt
 IsMarkIn-marked (Some c) p i = sym (put_entry-same c.marks p i true)

@@ -1,5 +1,5 @@
 -- Entry words: the list with a changed word at one used index shows the table with that cell or evacuation entry; and so
--- it is behind a put, a store, an exchange, a publish, a mark and an evacuation entry.
+-- it is after a put, a store, an exchange, a publish, a mark and an evacuation entry.
 use Rattle.std.proofs.Common.{◌≡◌, ◌≢◌, ◌<◌, ◌≤◌, ℕ, Bool, false, List, slice_index, Option, Some, None, IsTrue, sym, subst₂, ◌∙◌, inl, inr, arith}
 use Rattle.std.specs.Prelude.{◌⊎◌}
 use Rattle.std.proofs.lemmas.Bool.Decides.{eqb_tells}

@@ -1,4 +1,4 @@
--- Field words: behind a bind that says ok, and behind a forge, the list with the word at the field's place shows the table.
+-- Field words: after a bind that says ok, and after a forge, the list with the word at the field's place shows the table.
 use Rattle.std.proofs.Common.{◌≡◌, ◌<◌, ◌==◌, if◌then◌else◌, ℕ, Bool, true, false, List, slice_set, Option, Some, None, sym, ap, subst, ◌∙◌, arith}
 use Rattle.plain_table.specs.declared.events.Act.{Act}
 use Rattle.plain_table.specs.declared.events.Act.TheVariants.{Bind, Forge}

@@ -1,4 +1,4 @@
--- Freelist words: behind a take, the list with the word of the shorter list shows the table.
+-- Freelist words: after a take, the list with the word of the shorter list shows the table.
 use Rattle.std.proofs.Common.{◌≡◌, ◌≢◌, ◌+◌, ◌-◌, ◌/◌, ◌^◌, ◌<◌, ◌≤◌, ℕ, Bool, true, false, not, List, slice_index, slice_set, Option, Some, None, unwrap_or, IsTrue, refl, sym, ap, ap₂, subst, subst₂, ◌∙◌, inl, inr, arith, true≢false}
 use Rattle.std.specs.Option.{option_map_or}
 use Rattle.std.proofs.lemmas.Bool.{cases_lt, not_from_true, not_from_false}
@@ -26,7 +26,7 @@ use Rattle.word_laws.proofs.ShownParts.{SpaceIs, SpaceIn, LowShown, SpacesShown,
 use Rattle.word_laws.proofs.WordChanges.{Changed, Changed-slice_set, HeapShown-kept}
 use Rattle.word_laws.proofs.FreelistReads.{list-none, list-some}
 
--- a space behind a take of the head of its list: the index is used and links the next one, which becomes the head
+-- a space after a take of the head of its list: the index is used and links the next one, which becomes the head
 module _ {seg limit : ℕ} {used other : ℕ → Bool} {cells : ℕ → Option Cell} {evac : ℕ → Option ℕ} {IsMark : ℕ → Bool → Type 0} {entry entry_new : ℕ → ℕ} {freelist freelist_new committed : ℕ} (i link len : ℕ) where
   SpaceIs-taken : limit < 2 ^ 32 → least_from used 1 (committed - 1) ≡ Some i → other i ≡ true → ((k : ℕ) → i ≢ k → other k ≡ used k) →
       count_below (λ k. not (used k)) committed ≡ len + 1 → entry i ≡ free_word link → freelist_new ≡ freelist_word link len → ((k : ℕ) → entry_new k ≡ entry k) →
@@ -71,7 +71,7 @@ module _ {seg limit : ℕ} {used other : ℕ → Bool} {cells : ℕ → Option C
       not_same : (k : ℕ) → other k ≡ false → i ≢ k
       not_same k is_free e = absurd (true≢false (sym now ∙ ap other e ∙ is_free))
 
-      -- what is not used stands behind the head
+      -- what is not used stands after the head
       past : (k m : ℕ) → 1 ≤ k → used k ≡ false → k + 1 ≤ m → i ≢ m
       past k m later was from e = elim (cases_lt k i) [
         | inl less ↦ true≢false (sym (least_from-before used 1 (committed - 1) i found k later less) ∙ was)

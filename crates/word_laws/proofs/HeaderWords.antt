@@ -1,4 +1,4 @@
--- Header words: behind a scan the list with a black header shows the table, and shading an object shows the same table.
+-- Header words: after a scan the list with a black header shows the table, and shading an object shows the same table.
 use Rattle.std.proofs.Common.{◌≡◌, ◌≢◌, ◌<◌, ℕ, Bool, true, List, slice_index, slice_set, Option, Some, None, IsSomeAnd, refl, sym, ap, subst, ◌∙◌, inl, inr, arith}
 use Rattle.std.specs.Prelude.{◌||◌, nat_le}
 use Rattle.std.proofs.lemmas.Bool.Decides.{eqb_tells}

@@ -1,4 +1,4 @@
--- The words of globals and references: behind a link, the list with the object's word at its place shows the table.
+-- The words of globals and references: after a link, the list with the object's word at its place shows the table.
 use Rattle.std.proofs.Common.{◌≡◌, ◌<◌, ℕ, Bool, List, slice_set, Option, sym, ap, ap₂, subst, ◌∙◌, inl, arith}
 use Rattle.plain_table.specs.declared.events.Cell.{Cell}
 use Rattle.plain_table.specs.declared.events.Space.{Space}

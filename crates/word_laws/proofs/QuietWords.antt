@@ -1,4 +1,4 @@
--- Events that write no word: the words show the table behind them as they showed the one before.
+-- Events that write no word: the words show the table after them as they showed the one before.
 use Rattle.std.proofs.Common.{◌≡◌, ◌==◌, ℕ, Bool, true, false, List, Option, Some, None}
 use Rattle.std.specs.Prelude.{if◌then◌else◌, nat_lt}
 use Rattle.std.specs.Option.{option_map_or}

@@ -1,5 +1,5 @@
--- What words show of a table, told over the parts of the table, so that an event that leaves a part alone keeps what is
--- shown of it; and that a table is shown just where its parts are.
+-- What words show of a table, stated over the parts of the table, so that an event that leaves a part alone keeps what
+-- is shown of it; and that a table is shown just where its parts are.
 use Rattle.std.specs.Prelude.{◌≡◌, ◌+◌, ◌*◌, ◌^◌, ◌<◌, ◌≤◌, ℕ, Bool, false, not, List, length, slice_index, Option, Some, None, IsTrue, IfSome}
 use Rattle.plain_table.specs.declared.events.Cell.{Cell}
 use Rattle.plain_table.specs.declared.events.Space.{Space}

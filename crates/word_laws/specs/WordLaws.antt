@@ -1,5 +1,5 @@
 -- Words for words: where a list of machine words shows a table, and an event is legal in it, the list with the one word
--- changed that the event writes shows the table behind the event. Words tell nothing of variables, claims, fresh cells,
+-- changed that the event writes shows the table after the event. Words tell nothing of variables, claims, fresh cells,
 -- tickets and bindings, so some events change no word, and shading an object is a change of words with no event. What no
 -- word shows is a premise: that an object is within the limit, and that used indexes are sound.
 use Rattle.std.specs.Prelude.{◌≡◌, ◌≢◌, ℕ, ◌+◌, ◌*◌, ◌/◌, ◌%◌, ◌^◌, ◌<◌, ◌≤◌, nat_lt, true, false, if◌then◌else◌, List, slice_index, slice_set, Option, Some, None, IsTrue}
@@ -38,7 +38,7 @@ WritesNothing (Name f) said = Unit {0}
 WritesNothing (Look p word first last) said = Unit {0}
 WritesNothing _ said = ⊥
 
--- behind them the same words show the next table
+-- after them the same words show the next table
 abbrev pub WordsStay : Type 0
 WordsStay =
     (words : List ℕ) (s : Table) (e : Event) → Shows words s → IsLegal s e → WritesNothing e.act e.said →
@@ -59,7 +59,7 @@ FieldWordsFollow =
 abbrev pub HasSoundIndexes : Table → Type 0
 HasSoundIndexes s = UsedSound (limit_of s) s.used (id_at s) s.owed (entries_in s.cycle)
 
--- a put, a store, an exchange, a publish and a mark write the word of the cell that stands at the index behind them
+-- a put, a store, an exchange, a publish and a mark write the word of the cell that stands at the index after them
 abbrev pub WritesCell : Act → Space → ℕ → Type 0
 WritesCell (Put q j tag value) p i = (q ≡ p) × (j ≡ i)
 WritesCell (Set word first last value) p i = (External ≡ p) × (index_of word ≡ i)

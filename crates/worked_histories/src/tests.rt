@@ -111,7 +111,7 @@ fn history() -> [Event; 13] {
     ]
 }
 
-/// An event that is wrong behind so many events of the history.
+/// An event that is wrong after so many events of the history.
 fn wrong() -> [(usize, Event); 7] {
     [
         (1, take(2)),

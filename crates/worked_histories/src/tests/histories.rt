@@ -1,5 +1,5 @@
 // Worked histories of one mutator: its calls with their replies, cycles whose scans are all made at the pause, and what
-// can be seen behind them.
+// can be seen after them.
 use super::made::Made::*;
 use super::made::{AREA, Made, TAG};
 use plain_table::Reply::{Fault, Full, HeapFull, Nothing, Null, Obj, Taken, Value};

@@ -1,4 +1,4 @@
-// What mutator 0 does and what happens at a meet, each as its events. External fields, objects and indexes are told by
+// What mutator 0 does and what happens at a meet, each as its events. External fields, objects and indexes are given by
 // their numbers, and a word by its index, if nothing else is said; tags are `TAG`.
 use plain_table::{Act, Event, Field, Policy, Reply, Space};
 use std::alloc::Global;
@@ -35,7 +35,7 @@ pub enum Made {
     InitTag(u32, u32, u8, u64),
     /// A store at any word under any range, and the old value that it finds.
     StoreAsked(u32, u8, u8, u64, u64),
-    /// A store at any word, and an exchange at an index, behind a look that finds the old value.
+    /// A store at any word, and an exchange at an index, after a look that finds the old value.
     Store(u32, u64, u64),
     Swap(u32, u64, u64),
     Forge(u32, u32),

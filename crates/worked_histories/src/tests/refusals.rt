@@ -1,4 +1,4 @@
-// What is refused behind a legal history: the last event of each of these.
+// What is refused after a legal history: the last event of each of these.
 use super::histories::*;
 use super::made::Made::*;
 use super::made::{AREA, MEET, TAG};
@@ -6,7 +6,7 @@ use plain_table::Reply::{Fault, Full, Index, NoRoom, Ok, Taken, Value};
 use plain_table::Space::{External, Trusted};
 use plain_table::{Act, Policy};
 
-/// Events that end in a wrong one, all behind the same legal history of a table with so many external segments of four
+/// Events that end in a wrong one, all after the same legal history of a table with so many external segments of four
 /// entries and so many objects.
 pub struct Refusals {
     pub ext: u32,

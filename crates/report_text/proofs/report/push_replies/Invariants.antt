@@ -1,4 +1,4 @@
--- Behind the first replies stand their lines.
+-- After the first replies their lines stand in the text.
 use Rattle.std.proofs.Common.{◌≡◌, ◌++◌, string_bytes, take}
 use Rattle.std.specs.List.{flat_map}
 use Rattle.report_text.specs.Report.{reply_line}

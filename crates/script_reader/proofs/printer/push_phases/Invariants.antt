@@ -1,4 +1,4 @@
--- Behind the first phases stand their lines.
+-- After the first phases their lines stand in the text.
 use Rattle.std.proofs.Common.{◌≡◌, ◌++◌, string_bytes, take}
 use Rattle.std.specs.List.{flat_map}
 use Rattle.script_reader.specs.Canonical.{phase_text}

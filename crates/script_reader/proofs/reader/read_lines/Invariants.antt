@@ -1,4 +1,4 @@
--- What is left of the text goes on behind what is read so far.
+-- What is left of the text goes on after what is read so far.
 use Rattle.std.proofs.Common.{◌≡◌, ◌≤◌, ◌+◌, length}
 use Rattle.script_reader.specs.Spelling.{pieces}
 use Rattle.script_reader.specs.Grammar.{lines_from, opening}

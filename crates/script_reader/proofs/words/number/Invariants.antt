@@ -1,4 +1,4 @@
--- The digits so far spell the number, and what is left goes on behind it.
+-- The digits so far spell the number, and what is left goes on after it.
 use Rattle.std.proofs.Common.{◌≡◌, ◌<◌, ◌^◌, drop}
 use Rattle.script_reader.specs.Spelling.{number_onto}
 use Rattle.script_reader.proofs.words.number.Given as goal
