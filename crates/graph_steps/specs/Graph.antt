@@ -1,5 +1,6 @@
 -- What calls on objects leave: what a variable holds after a reply, what a link names, and an object that was shaded.
-use Rattle.std.specs.Prelude.{◌≡◌, ◌≢◌, ◌↔◌, ℕ, ◌+◌, ◌*◌, Bool, if◌then◌else◌, ◌∷◌, Option, Some, None, slice_set}
+use Rattle.std.specs.Prelude.{◌≡◌, ◌≢◌, ◌↔◌, ◌⊎◌, ◌≤◌, ℕ, ◌+◌, ◌*◌, Bool, if◌then◌else◌, [], ◌∷◌, Option, Some, None, slice_set}
+use Rattle.std.specs.Option.{option_map_or}
 use Rattle.plain_table.specs.declared.events.Spot.{Spot}
 use Rattle.plain_table.specs.declared.reports.Reply.{Reply}
 use Rattle.plain_table.specs.declared.reports.Reply.TheVariants as reply
@@ -9,6 +10,7 @@ use Rattle.entry_base.specs.declared.view.Fact.TheVariants as fact
 use Rattle.entry_base.specs.declared.view.View.{View}
 use Rattle.entry_base.specs.Callers.{SameOwn}
 use Rattle.entry_base.specs.Lists.{Has}
+use Rattle.entry_base.specs.Openings.{sizes_in}
 use Rattle.entry_base.specs.Sessions.{held_in}
 use Rattle.call_base.specs.Called.{Called, HeldAtLast, LeavesOwn}
 
@@ -28,13 +30,9 @@ HoldsReply v var _ w = LeavesOwn v w
 abbrev pub IsFullAtLimit : View → Reply → Type 0
 IsFullAtLimit w said = HeldAtLast w.opening w.seen (λ t. (said ≡ reply.HeapFull) ↔ (t.count ≡ t.sizes.objects))
 
--- what a place holds, as a reply; and that it held this at the event
-abbrev pub object_reply : Option ℕ → Reply
-object_reply None = reply.Nothing
-object_reply (Some q) = reply.Obj q
-
+-- a place held what the reply says at the event
 abbrev pub IsAtSpot : View → Spot → Reply → Type 0
-IsAtSpot w spot said = HeldAtLast w.opening w.seen (λ t. said ≡ object_reply (at_spot t spot))
+IsAtSpot w spot said = HeldAtLast w.opening w.seen (λ t. said ≡ option_map_or reply.Obj (at_spot t spot) reply.Nothing)
 
 -- the object that a link names: that of a variable, or none; and a named variable that holds nothing
 abbrev pub target_in : View → Option ℕ → Option ℕ
@@ -51,3 +49,10 @@ pub record IsShadedNow (v : View) (o : ℕ) (white : Bool) (w : View) : Type 0 w
   pub own : SameOwn v w
   pub hands : w.hands ≡ (if white then o ∷ v.hands else v.hands)
   pub knows : Has w.facts (fact.Shaded o)
+
+-- tries to make an object made no event so far, and at least so many are made
+pub record TriedTo (v : View) (least : ℕ) (w : View) : Type 0 where
+  pub called : Called v [] w
+  pub leaves : LeavesOwn v w
+  pub known : (least ≡ 0) ⊎ Has w.facts (fact.Count least)
+  pub low : least ≤ (sizes_in v.opening).objects

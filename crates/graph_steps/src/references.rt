@@ -1,5 +1,5 @@
 // Calls that link and fetch references.
-ghost use Rattle.std.specs.Prelude.{◌≡◌, ◌≢◌, ◌⊎◌, ◌↔◌, ◌+◌, ◌<◌, ◌≤◌, ◌∷◌, None, Some, IfSome, ℕ};
+ghost use Rattle.std.specs.Prelude.{◌≡◌, ◌≢◌, ◌⊎◌, ◌↔◌, ◌+◌, ◌<◌, ◌≤◌, [], ◌∷◌, None, Some, IfSome, ℕ};
 ghost use Rattle.std.specs.Option.{option_map_or};
 ghost use Rattle.plain_table.specs.declared.scripts.Op.TheVariants as op;
 ghost use Rattle.plain_table.specs.declared.events.Spot.TheVariants.{Ref};
@@ -27,7 +27,8 @@ pub struct Linked {
 }
 
 /// The word of what a link names: 0 for none, and else the number of the object plus 1. None where the named variable holds nothing.
-pub(crate) fn target_word(s: &Session, target: Option<u32>) -> Option<u32>
+pub(crate) fn target_word(shared: &Shared, s: &Session, target: Option<u32>) -> Option<u32>
+    requires caller { IsOf shared.now s.now }
     requires target { IfSome target (λ var. var < 16) }
     ensures word { IfSome result (IsTarget (view s.now) target) }
     ensures none { (result ≡ None) ↔ IsUnheld (view s.now) target }
@@ -98,7 +99,7 @@ pub fn link(shared: &Shared, s: &mut Session, var: u32, k: u32, target: Option<u
         None => return Linked { reply: Reply::Empty, shaded: None },
         Some(object) => object,
     };
-    let word = match target_word(s, target) {
+    let word = match target_word(shared, s, target) {
         None => return Linked { reply: Reply::Empty, shaded: None },
         Some(word) => word,
     };
