@@ -1,2 +1,4 @@
 pub mod ObjectCalls
 pub mod LinkCalls
+pub mod NewCalls
+pub mod Shadings

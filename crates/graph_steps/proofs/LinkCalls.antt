@@ -1,5 +1,5 @@
 -- Links of references and globals: their events are their shapes.
-use Rattle.std.proofs.Common.{◌≡◌, ℕ, ◌<◌, List, [], ◌∷◌, Option, Some, None, IfSome, refl, sym, subst, ◌∙◌}
+use Rattle.std.proofs.Common.{◌≡◌, ℕ, ◌<◌, List, [], ◌∷◌, Option, Some, None, IfSome, refl, ◌∙◌}
 use Rattle.plain_table.specs.declared.scripts.Op.{Op}
 use Rattle.plain_table.specs.declared.scripts.Op.TheVariants as op
 use Rattle.plain_table.specs.declared.events.Act.TheVariants as act
@@ -15,10 +15,10 @@ use Rattle.entry_base.specs.Callers.{SameOwn, event_of}
 use Rattle.entry_base.specs.Numbers.{HasNumber}
 use Rattle.entry_base.specs.Sessions.{held_in}
 use Rattle.object_rule.specs.Objects.{IsTarget, LinkedTo}
-use Rattle.call_base.specs.Called.{Called, EndsWith, Made, Suits}
-use Rattle.call_base.proofs.CallsInOrder.{called_none, called_then, suits_stay}
+use Rattle.call_base.specs.Called.{Called, Made, Suits}
+use Rattle.call_base.proofs.CallsInOrder.{called_none}
 use Rattle.call_base.proofs.HeldVariables.{WithObject-none, WithObject-some, held_in-holds, held_suits}
-use Rattle.call_base.proofs.OneEvent.{HasShape, called_once, ends_once, made_stays, made_still}
+use Rattle.call_base.proofs.OneEvent.{HasShape, made_after, made_still}
 use Rattle.graph_steps.specs.Graph.{IsUnheld}
 
 module _ (v : View) (cycle : Option Cycle) (held : Held) (ticket : OwnTicket) (suits : Suits v cycle held ticket) where
@@ -35,12 +35,7 @@ module _ (v : View) (cycle : Option Cycle) (held : Held) (ticket : OwnTicket) (s
 made_linked : (u v w : View) (call : Op) (spot : Spot) (target : Option ℕ) → HasNumber v v.number → Called u [] v → SameOwn u w → LinkedTo v spot target w
     → HasShape u call reply.Ok (event_of u (act.Link spot target) reply.Ok ∷ []) → Made u call reply.Ok w
 made_linked u v w call spot target own before leaves linked shape =
-    let called = called_then u v w [] (λ b. event b (act.Link spot target) reply.Ok ∷ []) before (called_once v w (act.Link spot target) reply.Ok own linked.same linked.extends) in
-    made_stays u w call reply.Ok (event_of u (act.Link spot target) reply.Ok ∷ []) called (ends_number (ends_once v w (event_of v (act.Link spot target) reply.Ok) linked.extends)) shape
-    (suits_stay u w called.same leaves.vars leaves.pending) (λ held. refl) (λ ticket. refl)
-  where
-    ends_number : EndsWith (event_of v (act.Link spot target) reply.Ok ∷ []) w.seen → EndsWith (event_of u (act.Link spot target) reply.Ok ∷ []) w.seen
-    ends_number ends = subst (λ b. EndsWith (event b (act.Link spot target) reply.Ok ∷ []) w.seen) before.same.number ends
+    made_after u v w call (act.Link spot target) reply.Ok own before linked.same leaves.vars leaves.pending linked.extends shape (λ held. refl) (λ ticket. refl)
 
 -- a reference
 module _ (v : View) (var k : ℕ) (few : var < 16) (target : Option ℕ) where
