@@ -9,7 +9,7 @@ use Rattle.plain_table.specs.declared.events.Spot.TheVariants.{Global, Ref}
 use Rattle.plain_table.specs.declared.reports.Reply.{Reply}
 use Rattle.plain_table.specs.declared.reports.Reply.TheVariants as reply
 use Rattle.plain_table.specs.Cycle.{Cycle}
-use Rattle.plain_table.specs.Shapes.{Held, OwnTicket, WithTarget, event}
+use Rattle.plain_table.specs.Shapes.{Held, OwnTicket, WithTarget}
 use Rattle.entry_base.specs.declared.view.View.{View}
 use Rattle.entry_base.specs.Callers.{SameOwn, event_of}
 use Rattle.entry_base.specs.Numbers.{HasNumber}

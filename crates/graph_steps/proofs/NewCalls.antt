@@ -1,5 +1,5 @@
 -- A new object: tries, until one wins or the heap is full.
-use Rattle.std.proofs.Common.{◌≡◌, ◌≢◌, ℕ, ◌+◌, ◌*◌, ◌<◌, ◌≤◌, ◌⊎◌, nat_lt, Bool, true, false, if◌then◌else◌, List, [], ◌∷◌, Option, Some, None, length, slice_set, refl, sym, ap, ap₂, subst, ◌∙◌, inl, inr, arith}
+use Rattle.std.proofs.Common.{◌≡◌, ◌≢◌, ℕ, ◌+◌, ◌*◌, ◌<◌, ◌≤◌, nat_lt, Bool, true, false, if◌then◌else◌, [], ◌∷◌, Some, length, slice_set, refl, sym, ap, ap₂, subst, ◌∙◌, inl, inr, arith}
 use Rattle.std.proofs.lemmas.Bool.Decides.{nat_tests}
 use Rattle.std.specs.Prelude.{◌↔◌}
 use Rattle.plain_table.specs.declared.scripts.Op.TheVariants as op
@@ -13,7 +13,7 @@ use Rattle.entry_base.specs.Callers.{Extends, event_of}
 use Rattle.entry_base.specs.Numbers.{HasNumber}
 use Rattle.entry_base.specs.Openings.{sizes_in}
 use Rattle.entry_base.proofs.OneByOne.{own_trans}
-use Rattle.object_rule.specs.Objects.{CountForNew, CountLoaded, NewObject}
+use Rattle.object_rule.specs.Objects.{CountForNew, NewObject}
 use Rattle.call_base.specs.Called.{Called, HeldAtLast, LeavesOwn, Made}
 use Rattle.call_base.proofs.CallsInOrder.{called_looks, called_none, called_trans}
 use Rattle.call_base.proofs.HeldVariables.{made_sets_by}

@@ -1,5 +1,5 @@
 -- Calls that set a variable: drop, fetch and new. Their events are their shapes.
-use Rattle.std.proofs.Common.{◌≡◌, ℕ, zero, suc, ◌+◌, ◌*◌, ◌<◌, ◌≤◌, ◌⊎◌, nat_lt, List, [], ◌∷◌, Option, Some, None, length, slice_set, refl, sym, ap, subst, ◌∙◌, inl, inr, arith}
+use Rattle.std.proofs.Common.{◌≡◌, ℕ, zero, suc, ◌<◌, [], ◌∷◌, Some, None, length, refl, sym, subst, ◌∙◌, arith}
 use Rattle.plain_table.specs.declared.scripts.Op.{Op}
 use Rattle.plain_table.specs.declared.scripts.Op.TheVariants as op
 use Rattle.plain_table.specs.declared.events.Act.TheVariants as act
@@ -8,9 +8,8 @@ use Rattle.plain_table.specs.declared.events.Spot.TheVariants.{Ref}
 use Rattle.plain_table.specs.declared.reports.Reply.TheVariants as reply
 use Rattle.std.specs.Option.{option_map_or}
 use Rattle.plain_table.specs.Rows.{at_spot}
-use Rattle.plain_table.specs.Shapes.{event}
 use Rattle.entry_base.specs.declared.view.View.{View}
-use Rattle.entry_base.specs.Callers.{Extends, event_of}
+use Rattle.entry_base.specs.Callers.{event_of}
 use Rattle.entry_base.specs.Numbers.{HasNumber}
 use Rattle.entry_base.specs.Sessions.{held_in}
 use Rattle.object_rule.specs.Objects.{Dropped, Got, got_reply}
