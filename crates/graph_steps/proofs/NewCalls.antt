@@ -18,7 +18,7 @@ use Rattle.call_base.specs.Called.{Called, HeldAtLast, LeavesOwn, Made}
 use Rattle.call_base.proofs.CallsInOrder.{called_looks, called_none, called_trans}
 use Rattle.call_base.proofs.HeldVariables.{made_sets_by}
 use Rattle.call_base.proofs.OneEvent.{called_after, ends_after, held_at_last, made_after}
-use Rattle.graph_steps.specs.Graph.{IsFullAtLimit, TriedTo}
+use Rattle.graph_steps.specs.Graph.{IsNewAtEvent, IsNewReply, TriedTo}
 
 pub tried_none : (v : View) → TriedTo v 0 v
 tried_none v = record {
@@ -28,18 +28,18 @@ tried_none v = record {
   low = omega arith;
 }
 
--- the reply of a new object is heap full exactly where the count is the limit
-full_at_limit : (t : Table) (said : Reply) → IsSound t → said ≡ (if nat_lt t.count t.sizes.objects then reply.Obj t.count else reply.HeapFull) → (said ≡ reply.HeapFull) ↔ (t.count ≡ t.sizes.objects)
-full_at_limit t said sound is = go (nat_lt t.count t.sizes.objects) refl is
+-- the reply of the row of a new object, in a sound table
+new_reply : (t : Table) (said : Reply) → IsSound t → said ≡ (if nat_lt t.count t.sizes.objects then reply.Obj t.count else reply.HeapFull) → IsNewReply t said
+new_reply t said sound is = go (nat_lt t.count t.sizes.objects) refl is
   where
-    go : (b : Bool) → nat_lt t.count t.sizes.objects ≡ b → said ≡ (if b then reply.Obj t.count else reply.HeapFull) → (said ≡ reply.HeapFull) ↔ (t.count ≡ t.sizes.objects)
-    go true less made = (λ full. absurd (let wrong : reply.Obj t.count ≡ reply.HeapFull = sym made ∙ full in cc), λ same. absurd (let l : t.count < t.sizes.objects = grind (arith, nat_tests) in omega (arith, l, same)))
-    go false more full = (λ said_full. (let few = sound.objects.few in let m : t.sizes.objects ≤ t.count = grind (arith, nat_tests) in omega (arith, few, m)), λ same. full)
+    go : (b : Bool) → nat_lt t.count t.sizes.objects ≡ b → said ≡ (if b then reply.Obj t.count else reply.HeapFull) → IsNewReply t said
+    go true less made = inl (grind (arith, nat_tests), made)
+    go false more full = inr ((let few = sound.objects.few in let m : t.sizes.objects ≤ t.count = grind (arith, nat_tests) in omega (arith, few, m)), full)
 
 -- so the step with the event says it of its reply
-new_at_limit : (v w : View) (var : ℕ) (said : Reply) → w.opening ≡ v.opening → Extends v (event_of v (act.New var) said) w → IsFullAtLimit w said
-new_at_limit v w var said opening extends = subst (λ o. HeldAtLast o w.seen (λ t. (said ≡ reply.HeapFull) ↔ (t.count ≡ t.sizes.objects))) (sym opening)
-    (held_at_last v w (event_of v (act.New var) said) _ extends (λ t sound sizes legal. full_at_limit t said sound legal.1))
+new_at_event : (v w : View) (var : ℕ) (said : Reply) → w.opening ≡ v.opening → Extends v (event_of v (act.New var) said) w → IsNewAtEvent w said
+new_at_event v w var said opening extends = subst (λ o. HeldAtLast o w.seen (λ t. IsNewReply t said)) (sym opening)
+    (held_at_last v w (event_of v (act.New var) said) (λ t. IsNewReply t said) extends (λ t sound sizes legal. new_reply t said sound legal.1))
 
 -- a load after tries
 module _ (u v w : View) (var least count : ℕ) (own : HasNumber v v.number) (tried : TriedTo u least v) (loaded : CountForNew v var count w) where
@@ -61,8 +61,8 @@ module _ (u v w : View) (var least count : ℕ) (own : HasNumber v v.number) (tr
     pub full_leaves : LeavesOwn u w
     full_leaves = leaves
 
-    pub full_at : IsFullAtLimit w reply.HeapFull
-    full_at = new_at_limit v w var reply.HeapFull loaded.loaded.same.opening (loaded.full is)
+    pub full_at : IsNewAtEvent w reply.HeapFull
+    full_at = new_at_event v w var reply.HeapFull loaded.loaded.same.opening (loaded.full is)
 
   -- and an exchange after it
   module _ (x : View) (found : ℕ) (below : count < (sizes_in v.opening).objects) (own_w : HasNumber w w.number) (new : NewObject w var count found x) where
@@ -78,8 +78,8 @@ module _ (u v w : View) (var least count : ℕ) (own : HasNumber v v.number) (tr
         (op.New var) (reply.Obj count) (event_of u (act.New var) (reply.Obj count) ∷ []) (m.rest.0 ∙ leaves.own.pending) called
         (ends_after u w x (act.New var) (reply.Obj count) looked m.extends) (λ cycle held ticket suits. refl) (λ held. refl) (λ ticket. refl)
 
-    pub new_at : found ≡ count → IsFullAtLimit x (reply.Obj count)
-    new_at won = let m = new.won won in new_at_limit w x var (reply.Obj count) m.same.opening m.extends
+    pub new_at : found ≡ count → IsNewAtEvent x (reply.Obj count)
+    new_at won = let m = new.won won in new_at_event w x var (reply.Obj count) m.same.opening m.extends
 
     -- a missed one has found more
     pub tried_more : found ≢ count → TriedTo u found x
