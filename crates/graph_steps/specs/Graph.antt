@@ -1,5 +1,5 @@
 -- What calls on objects leave: what a variable holds after a reply, what a link names, and an object that was shaded.
-use Rattle.std.specs.Prelude.{◌≡◌, ◌↔◌, ◌⊎◌, ◌<◌, ◌≤◌, ℕ, ◌+◌, ◌*◌, Bool, if◌then◌else◌, [], ◌∷◌, Option, Some, None, slice_set}
+use Rattle.std.specs.Prelude.{◌≡◌, ◌⊎◌, ◌<◌, ◌≤◌, ℕ, ◌+◌, ◌*◌, Bool, if◌then◌else◌, [], ◌∷◌, Option, Some, None, slice_set}
 use Rattle.std.specs.Option.{option_map_or}
 use Rattle.plain_table.specs.declared.events.Spot.{Spot}
 use Rattle.plain_table.specs.declared.reports.Reply.{Reply}

@@ -96,16 +96,25 @@ pub fn link(shared: &Shared, s: &mut Session, var: u32, k: u32, target: Option<u
     ensures covered { result.reply ≡ reply.Ok → phase_of (view s.old).opening ≡ 1 → IfSome (target_in (view s.old) target) (λ q. Has (view s.new).facts (fact.Shaded q)) }
 {
     let object = match s.held(var) {
-        None => return Linked { reply: Reply::Empty, shaded: None },
+        None => return Linked {
+            reply: Reply::Empty,
+            shaded: None,
+        },
         Some(object) => object,
     };
     let word = match target_word(shared, s, target) {
-        None => return Linked { reply: Reply::Empty, shaded: None },
+        None => return Linked {
+            reply: Reply::Empty,
+            shaded: None,
+        },
         Some(word) => word,
     };
     let shaded = shade_target(shared, s, word);
     link_reference(shared, s, object, k, target, word);
-    Linked { reply: Reply::Ok, shaded }
+    Linked {
+        reply: Reply::Ok,
+        shaded,
+    }
 }
 
 /// Fetches what reference `k`, below 4, of the object of the variable `var` holds into the variable `into`; variables are below 16.
