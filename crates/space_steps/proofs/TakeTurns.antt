@@ -251,3 +251,6 @@ no_step v = (called_none v, record { own = record { vars = refl; pending = refl;
 
 pub measure_falls : (word later : ℕ) → later < 2 ^ 64 → rank word < rank later → 2 ^ 34 - rank later < 2 ^ 34 - rank word
 measure_falls word later small up = let low = rank_low later small in omega (arith, low, up)
+
+pub same_after : {v w x : View} → Called v [] w → Called w [] x → SameCaller v x
+same_after {v} {w} {x} a b = same_trans v w x a.same b.same
