@@ -36,7 +36,7 @@ returns-then-word-limit-clause-few g c =
     let above = c.if-word-limit.true in
     let empty = c.if-word-eq0.true in
     let called = (c.loop-word.invariant.so_far.over (omega (arith, empty), omega (arith, limit, l, above, empty))).0 in
-    tries_few _ _ _ (act.Take c.args.space) reply.Full _ _ (takes_of-few c.args.space taken.Full) called c.loop-word.invariant.so_far.bound
+    tries_few _ _ c.args.space (act.Take c.args.space) reply.Full _ _ (takes_of-few c.args.space taken.Full) called c.loop-word.invariant.so_far.bound
 
 pub returns-in-Some-clause-called : goal.returns-in-Some-clause-called
 returns-in-Some-clause-called g c =
