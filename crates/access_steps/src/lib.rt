@@ -1,0 +1,10 @@
+//! The calls of a mutator by external fields and by words of the external space, on an open table.
+//!
+//! The events of each call are the shape of its operation with its reply, added to the history that the caller's session has
+//! seen, where others' events may stand between; and a call says when it answers Empty. `fields.rt` names, loads, stores,
+//! swaps and forges by a field, `words.rt` loads and stores by any word, and `looks.rt` has the look that they share.
+#![tactic(auto)]
+
+mod looks;
+
+pub use looks::{Looked, look, reply_of};
