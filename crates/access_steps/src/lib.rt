@@ -5,6 +5,10 @@
 //! swaps and forges by a field, `words.rt` loads and stores by any word, and `looks.rt` has the look that they share.
 #![tactic(auto)]
 
+mod fields;
 mod looks;
+mod words;
 
+pub use fields::{forge, load, name, store, swap};
 pub use looks::{Looked, look, reply_of};
+pub use words::{raw_load, raw_store};
