@@ -18,13 +18,14 @@ use Rattle.call_base.proofs.OneEvent.{called_once, made_stays}
 use Rattle.access_steps.specs.Accesses.{IsLookAndWrite, Writes}
 
 -- a look that found a value, and the write
-pub Writes-found : (u v w : View) (word first last old : ℕ) (write : Act) (said : Reply) → Called u (event_of u (act.Look External word first last) (reply.Value old) ∷ []) v
-    → HasNumber v v.number → Answered v (event_of v write said) w → Writes u word first last write said w
-Writes-found u v w word first last old write said looked own answered = record {
+pub Writes-found : (u v w : View) (word first last old : ℕ) (known write : Act) (said : Reply) → known ≡ write → Called u (event_of u (act.Look External word first last) (reply.Value old) ∷ []) v
+    → HasNumber v v.number → Answered v (event_of v known said) w → Writes u word first last write said w
+Writes-found u v w word first last old known write said same looked own answered = record {
   own = event_of u (act.Look External word first last) (reply.Value old) ∷ event_of u write said ∷ [];
   called = called_then u v w (event_of u (act.Look External word first last) (reply.Value old) ∷ []) (λ b. event b write said ∷ []) looked
-      (called_once v w write said own answered.same answered.extends);
-  ends = (v.seen ++ answered.extends.between, answered.extends.seen ∙ ap (λ b. (v.seen ++ answered.extends.between) ++ event b write said ∷ []) looked.same.number);
+      (subst (λ a. Called v (event_of v a said ∷ []) w) same (called_once v w known said own answered.same answered.extends));
+  ends = (v.seen ++ answered.extends.between, answered.extends.seen ∙ (ap (λ a. (v.seen ++ answered.extends.between) ++ event v.number a said ∷ []) same
+      ∙ ap (λ b. (v.seen ++ answered.extends.between) ++ event b write said ∷ []) looked.same.number));
   shape = inr (old, refl);
 }
 

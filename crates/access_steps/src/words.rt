@@ -60,7 +60,8 @@ pub(crate) fn store_at(
         Looked::Fault => Reply::Fault,
         Looked::Found { tag, value: _ } => {
             let first = range.first().byte();
-            store_step(shared, s, word, first, range.last().byte(), tag, value);
+            let last = range.last().byte();
+            store_step(shared, s, word, first, last, tag, value);
             Reply::Ok
         }
     }
