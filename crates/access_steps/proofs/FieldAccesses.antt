@@ -47,7 +47,7 @@ module _ (v : View) (var f : ℕ) (few : var < 16) (none : field_number v var f 
   still Shape cycle held own suits = WithObject-none held var Shape (held_suits v var few cycle held own suits ∙ held_in-none v var f none)
 
   pub Made-init_empty : (tag value : ℕ) → Made v (op.Init var f tag value) reply.Empty v
-  Made-init_empty tag value = made_still v _ _ (still _)
+  Made-init_empty tag value = made_still v _ _ (λ cycle held own suits. still _ cycle held own suits)
 
   pub Made-name_empty : Made v (op.Name var f) reply.Empty v
   Made-name_empty = made_still v _ _ (still _)

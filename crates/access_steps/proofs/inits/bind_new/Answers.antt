@@ -11,7 +11,7 @@ use Rattle.access_steps.proofs.NewBindings.{BindsNew-taken, bind_reply-free, bin
 use Rattle.access_steps.proofs.inits.bind_new.Goals as goal
 
 pub returns-then-found-eq0-clause-binds : goal.returns-then-found-eq0-clause-binds
-returns-then-found-eq0-clause-binds c =
+returns-then-found-eq0-clause-binds g c =
     let u = view c.args.s.now in
     let v = view c.take.new.s in
     BindsNew-taken u v (view c.clear_area.new.s) (view c.put-word.new.s) _ c.args.number c.args.tag c.args.value c.in-At.ticket.index _ c.bind_external-found.result
@@ -21,7 +21,7 @@ returns-then-found-eq0-clause-binds c =
     _ (bind_reply-free _ c.if-found-eq0.true)
 
 pub returns-clause-binds : goal.returns-clause-binds
-returns-clause-binds c =
+returns-clause-binds g c =
     let u = view c.args.s.now in
     let v = view c.take.new.s in
     BindsNew-taken u v (view c.clear_area.new.s) (view c.put-word.new.s) _ c.args.number c.args.tag c.args.value c.in-At.ticket.index _ c.bind_external-found.result
