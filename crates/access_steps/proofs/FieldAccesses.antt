@@ -46,6 +46,9 @@ module _ (v : View) (var f : ℕ) (few : var < 16) (none : field_number v var f 
   still : (Shape : ℕ → Type 0) (cycle : Option Cycle) (held : Held) (own : OwnTicket) → Suits v cycle held own → WithObject held var reply.Empty [] Shape
   still Shape cycle held own suits = WithObject-none held var Shape (held_suits v var few cycle held own suits ∙ held_in-none v var f none)
 
+  pub Made-init_empty : (tag value : ℕ) → Made v (op.Init var f tag value) reply.Empty v
+  Made-init_empty tag value = made_still v _ _ (λ cycle held own suits. still _ cycle held own suits)
+
   pub Made-name_empty : Made v (op.Name var f) reply.Empty v
   Made-name_empty = made_still v _ _ (still _)
 
