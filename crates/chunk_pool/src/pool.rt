@@ -94,7 +94,7 @@ impl Pool {
 }
 
 impl Thief {
-    ghost use Rattle.std.specs.Prelude.{◌≤◌, IfSome, None, true};
+    ghost use Rattle.std.specs.Prelude.{◌≤◌, IfSome, None, false, true};
     ghost use Rattle.chunk_pool.specs.Claims.{both, giver, newcomer, saw_end, Took};
     ghost use Rattle.chunk_pool.specs.Thieves.{claims_of, IsThiefOf};
 
