@@ -1,18 +1,19 @@
 -- Each kind of step keeps the rule.
-use Rattle.std.proofs.Common.{◌≡◌, ◌≢◌, ℕ, zero, suc, ◌+◌, ◌-◌, ◌%◌, ◌^◌, ◌≤◌, ◌<◌, ◌==◌, nat_lt, if◌then◌else◌, Bool, true, false, ◌||◌, ◌⊎◌, inl, inr, List, [], ◌∷◌, ◌++◌, length, slice_index, set, refl, sym, ap, ◌∙◌, subst, ⊎_elim, arith, Option, Some, None, true≢false, map, get_or}
+use Rattle.std.proofs.Common.{◌≡◌, ◌≢◌, ℕ, zero, suc, ◌+◌, ◌%◌, ◌^◌, ◌≤◌, ◌<◌, ◌==◌, nat_lt, if◌then◌else◌, Bool, true, false, ◌||◌, ◌⊎◌, inl, inr, List, [], ◌∷◌, ◌++◌, length, slice_index, set, refl, sym, ap, ◌∙◌, subst, ⊎_elim, arith, Option, Some, None, true≢false, map}
 use Rattle.std.proofs.lemmas.Bool.Decides.{nat_tests}
 use Rattle.std.proofs.lemmas.List.{set-get_or}
 use mathlib.Core.Option.{none, some, some-injective, some-ne-none}
 use lib.ListN.{get_elem?}
 use Rattle.atomic_table.specs.Table.{State, Me, step, Act, keeps, takes, gives, chain, put_back, rest, carried_after, Valid, stepped, opening, Allows, Splits, Joins}
-use Rattle.atomic_table.proofs.Lists.{at_set, at_snoc, at_map, set_else, set_again}
+use Rattle.atomic_table.proofs.Lists.{at_snoc, at_map, set_else, set_again}
 use Rattle.entry_base.specs.Lists.{total, count_in}
 use Rattle.entry_base.specs.declared.chunks.Chunk.{Chunk}
 use Rattle.entry_base.proofs.Sums.{total_set, total_append, among, views_set, count_append, count_self}
 use Rattle.chunk_pool.specs.declared.claims.Claims.{Claims}
 use Rattle.chunk_pool.specs.Claims.{first_claims, took, saw_end, giver, newcomer, both, spent, IsGiven, IsWhole, TookEachOnce}
-use Rattle.chunk_pool.specs.Rule.{times, parts, ends, Holds, Kept, Won, Lost, claimed, gave_back, learned}
+use Rattle.chunk_pool.specs.Rule.{times, parts, ends, Holds, Kept, claimed, gave_back, learned}
 use Rattle.chunk_pool.specs.Thieves.{AreEmptied}
+use Rattle.chunk_pool.proofs.Given.{given_there, given_within}
 use Rattle.chunk_pool.proofs.Parts.{total_ends, ends_both, ends_parted, total_alone}
 
 abbrev Out : Type 0
@@ -26,16 +27,9 @@ long_set : (ws : List ℕ) (x : ℕ) → length (set ws 0 x) ≡ length ws
 long_set [] x = refl
 long_set (a ∷ ws) x = refl
 
--- a list has an element at each place below its length
-there : (xs : List Chunk) (j : ℕ) → j < length xs → (c : Chunk) × IsGiven xs j c
-there [] j l = absurd (omega arith)
-there (x ∷ xs) zero l = (x, refl)
-there (x ∷ xs) (suc j) l = there xs j (omega arith)
-
-inside : (xs : List Chunk) (j : ℕ) (c : Chunk) → IsGiven xs j c → j < length xs
-inside [] j c e = absurd (some-ne-none c (sym e))
-inside (x ∷ xs) zero c e = omega arith
-inside (x ∷ xs) (suc j) c e = let r = inside xs j c e in omega arith
+-- the number of claims is at most that of the chunks and of the thieves
+pub claims_bounded : (given : List Chunk) (made : ℕ) (s : State (Option Chunk) Claims) → Kept given made s → slice_index s.words 0 ≤ length given + made
+claims_bounded given made s k = let a = total_ends s.views in let b = k.bound in let c = k.all in omega arith
 
 -- whether a number is the one claimed
 abbrev hit : ℕ → ℕ → ℕ
@@ -78,12 +72,8 @@ module _ (given : List Chunk) (made : ℕ) (s : State (Option Chunk) Claims) (k 
   rested : (c : Out) → AreEmptied v c → rest c ≡ []
   rested c out = ⊎_elim (λ (e : c ≡ []). ap rest e) (λ (o : (n : ℕ) × (c ≡ (n, None) ∷ []) × (0 < count_in n v.taken)). ap rest o.1) out
 
-  -- the word is at most the number of chunks and of thieves
-  word_bounded : word ≤ length given + made
-  word_bounded = let a = total_ends s.views in let b = k.bound in let c = k.all in omega arith
-
   next : slice_index (set s.words 0 ((word + 1) % 2 ^ 64)) 0 ≡ word + 1
-  next = word_set s.words ((word + 1) % 2 ^ 64) k.one_word ∙ (let a = word_bounded in let d = k.few in let e = k.few_thieves in omega arith)
+  next = word_set s.words ((word + 1) % 2 ^ 64) k.one_word ∙ (let a = claims_bounded given made s k in let d = k.few in let e = k.few_thieves in omega arith)
 
   -- a thief that is all of them, where all is claimed
   whole_took : length given ≤ word → IsWhole (saw_end v) → TookEachOnce v
@@ -139,7 +129,7 @@ module _ (given : List Chunk) (made : ℕ) (s : State (Option Chunk) Claims) (k 
         few = k.few;
         few_thieves = k.few_thieves;
         one_word = long_set s.words _ ∙ k.one_word;
-        home = λ j y le is. let l = inside given j y is in absurd (omega arith);
+        home = λ j y le is. let l = given_within given j y is in absurd (omega arith);
         once = λ j l le. let a = change j in let z = k.once j l (omega arith) in omega arith;
         none = λ j lower. let a = change j in ⊎_elim (λ (b : slice_index (set s.words 0 ((word + 1) % 2 ^ 64)) 0 ≤ j). let z = k.none j (inl (omega arith)) in omega arith) (λ (b : length given ≤ j). let z = k.none j (inr b) in omega arith) lower;
         bound = let a = total_set ends s.views id v w at in let z : ends v ≡ 0 = ap (λ (b : Bool). if b then v.joined else 0) fresh in let b = k.bound in omega arith;
@@ -195,7 +185,7 @@ claims given made slots id me alive fresh out s k sized at fits = go (nat_lt (sl
     go true e =
         let lt : n < length given = grind (arith, nat_tests) in
         let l = long in
-        let y = there given n lt in (
+        let y = given_there given n lt in (
           took n v,
           chain gives (takes n (Some y.0)),
           (tt, back given made s k id v at alive c out n (omega arith) ∙ k.home n y.0 (omega arith) y.1),

@@ -1,5 +1,5 @@
 -- What thieves have claimed, and how claims change.
-use Rattle.std.specs.Prelude.{◌≡◌, ℕ, ◌+◌, ◌-◌, ◌<◌, ◌≤◌, ◌||◌, Bool, true, false, List, [], ◌∷◌, ◌++◌, length}
+use Rattle.std.specs.Prelude.{◌≡◌, ℕ, ◌+◌, ◌-◌, ◌<◌, ◌≤◌, ◌||◌, true, false, List, [], ◌∷◌, ◌++◌, length}
 use mathlib.Core.Option.{some}
 use lib.ListN.{get_elem?}
 use Rattle.entry_base.specs.Lists.{count_in}
@@ -41,9 +41,10 @@ IsGiven given k chunk = get_elem? given k ≡ some chunk
 
 -- a claim took the very chunk that was given with the number claimed
 pub record Took (v : Claims) (chunk : Chunk) (w : Claims) : Type 0 where
-  pub open_before : v.ended ≡ false
+  pub before : v.ended ≡ false
   pub number : ℕ
   pub later : v.next ≤ number
+  pub within : number < length v.given
   pub given : IsGiven v.given number chunk
   pub after : w ≡ took number v
 

@@ -18,5 +18,6 @@ AreEmptied v out = (out ≡ []) ⊎ ((k : ℕ) × (out ≡ (k, None) ∷ []) × 
 pub record IsThiefOf (p : Pool) (t : Thief) : Type 0 where
   pub table : t.seat.table_id ≡ p.table.shared.table_id
   pub slots : p.table.shared.table_id.slots ≡ length (claims_of t).given
+  pub few : length (claims_of t).given ≤ 512
   pub live : 0 < (claims_of t).joined
   pub out : AreEmptied (claims_of t) t.seat.me.1

@@ -94,7 +94,8 @@ impl Pool {
 }
 
 impl Thief {
-    ghost use Rattle.std.specs.Prelude.{◌≤◌, IfSome, None, false, true};
+    ghost use Rattle.std.specs.Prelude.{◌≤◌, IfNone, IfSome, None, false, true};
+    ghost use mathlib.Core.Logic.{◌↔◌};
     ghost use Rattle.chunk_pool.specs.Claims.{both, giver, newcomer, saw_end, Took};
     ghost use Rattle.chunk_pool.specs.Thieves.{claims_of, IsThiefOf};
 
@@ -117,8 +118,9 @@ impl Thief {
         requires thief { IsThiefOf pool.now self.old }
         ensures thief { IsThiefOf pool.now self.new }
         ensures took { IfSome result (λ chunk. Took (claims_of self.old) chunk (claims_of self.new)) }
-        ensures end { result ≡ None → claims_of self.new ≡ saw_end (claims_of self.old) }
-        ensures idle { (claims_of self.old).ended ≡ true → claims_of self.new ≡ claims_of self.old }
+        ensures end { IfNone result (claims_of self.new ≡ saw_end (claims_of self.old)) }
+        ensures idle { (claims_of self.old).ended ≡ true → (result ≡ None) × (claims_of self.new ≡ claims_of self.old) }
+        ensures exact { (result ≡ None) ↔ ((claims_of self.new).ended ≡ true) }
 
         // So a thief that is all of them took each chunk once.
         ensures whole { IsWhole (claims_of self.new) → TookEachOnce (claims_of self.new) }
@@ -126,7 +128,10 @@ impl Thief {
         if self.ended {
             return None;
         }
-        let number = pool.table.shared.fetch_add::<ClaimsNext>(&mut self.seat, 0, 1);
+        let number = pool
+            .table
+            .shared
+            .fetch_add::<ClaimsNext>(&mut self.seat, 0, 1);
         if number < pool.count {
             pool.table
                 .shared

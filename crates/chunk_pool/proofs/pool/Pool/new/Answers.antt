@@ -1,4 +1,4 @@
-use Rattle.std.proofs.Common.{rules, ◌≡◌, ◌≤◌, List, [], ◌∷◌, Option, map, Some, ap, sym, ◌∙◌, subst, arith}
+use Rattle.std.proofs.Common.{◌≡◌, List, [], ◌∷◌, Option, map, Some, ap, sym, ◌∙◌, subst, arith}
 use Rattle.entry_base.specs.declared.chunks.Chunk.{Chunk}
 use Rattle.atomic_table.specs.Table.{opening}
 use Rattle.chunk_pool.specs.Claims.{first_claims}

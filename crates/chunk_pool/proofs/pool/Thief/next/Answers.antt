@@ -1,10 +1,9 @@
-use Rattle.std.proofs.Common.{rules, ◌≡◌, ℕ, ◌+◌, ◌<◌, ◌≤◌, ◌++◌, [], ◌∷◌, length, Option, None, Some, ap, sym, ◌∙◌, refl, subst, inr, arith}
+use Rattle.std.proofs.Common.{◌≡◌, ℕ, ◌<◌, ◌≤◌, ◌∷◌, length, Option, None, Some, ap, sym, ◌∙◌, subst, inr, arith}
 use Rattle.entry_base.specs.declared.chunks.Chunk.{Chunk}
 use Rattle.entry_base.specs.Lists.{count_in}
 use Rattle.atomic_table.specs.Table.{Me, rest}
 use Rattle.chunk_pool.specs.declared.claims.Claims.{Claims}
 use Rattle.chunk_pool.specs.Claims.{took}
-use Rattle.chunk_pool.specs.Thieves.{IsThiefOf}
 use Rattle.chunk_pool.proofs.Keeps.{claims, count_last}
 use Rattle.chunk_pool.proofs.pool.Thief.next.Goals as goal
 
@@ -34,6 +33,7 @@ returns-then-number-pool-clause-thief c =
     record {
       table = x.0 ∙ (e.0 ∙ t.table);
       slots = t.slots ∙ ap (λ (w : Claims). length w.given) (sym is);
+      few = subst (λ (w : Claims). length w.given ≤ 512) (sym is) t.few;
       live = subst (λ (w : Claims). 0 < w.joined) (sym is) t.live;
       out = inr (n, ap (λ (m : Me (Option Chunk) Claims). m.1) x.3 ∙ (λ i. (n, None) ∷ ap (λ (m : Me (Option Chunk) Claims). rest m.1) won.after i), subst (λ (w : Claims). 0 < count_in n w.taken) (sym is) (count_last n v.taken));
     }

@@ -1,4 +1,4 @@
-use Rattle.std.proofs.Common.{rules, ◌≡◌, ◌<◌, arith}
+use Rattle.std.proofs.Common.{arith}
 use Rattle.chunk_pool.proofs.Keeps.{splits}
 use Rattle.chunk_pool.proofs.pool.Thief.part.Goals as goal
 
