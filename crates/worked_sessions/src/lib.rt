@@ -6,9 +6,21 @@
 #![tactic(auto)]
 
 #[cfg(test)]
+mod area_tests;
+#[cfg(test)]
+mod cell_mark_tests;
+#[cfg(test)]
 mod closings;
 #[cfg(test)]
+mod cycles;
+#[cfg(test)]
 mod entry_tests;
+#[cfg(test)]
+mod field_tests;
+#[cfg(test)]
+mod fillings;
+#[cfg(test)]
+mod limit_tests;
 #[cfg(test)]
 mod mark_tests;
 #[cfg(test)]
@@ -16,6 +28,12 @@ mod object_tests;
 #[cfg(test)]
 mod openings;
 #[cfg(test)]
+mod scan_tests;
+#[cfg(test)]
 mod segment_tests;
 #[cfg(test)]
 mod session_tests;
+#[cfg(test)]
+mod thread_tests;
+#[cfg(test)]
+mod trusted_tests;
