@@ -5,8 +5,8 @@ ghost use Rattle.word_laws.specs.Small.{AreSmall};
 ghost use Rattle.entry_word.specs.Image.{image_of, sizes_of};
 ghost use Rattle.entry_base.specs.Callers.{SameCaller};
 ghost use Rattle.entry_base.specs.Lists.{AreIn};
-ghost use Rattle.entry_base.specs.Openings.{phase_of, start_of};
-ghost use Rattle.entry_base.specs.Sessions.{view, opened_with, IsOf};
+ghost use Rattle.entry_base.specs.Openings.{opening_of, start_of};
+ghost use Rattle.entry_base.specs.Sessions.{view, IsOf};
 ghost use Rattle.entry_base.specs.Views.{numbers_below};
 
 use crate::closings::close_both;
@@ -44,7 +44,7 @@ fn begin_on(
 ) -> Result<Image, OutOfMemory>
     requires lawful { IsLawful (image_of image) }
     ensures lawful { IfOk result (λ image. IsLawful (image_of image)) }
-    ensures small { IfOk result (λ image. AreSmall (sizes_of image.shape)) }
+    ensures shape { IfOk result (λ image. image.shape ≡ SHAPE) }
 {
     let shape = image.shape;
     assert!(rt; shape.seg == 4 && shape.ext == 2 && shape.tru == 1 && shape.objects == 4);
@@ -57,7 +57,7 @@ fn begin_on(
 /// The image with object 0 in a cycle with no area: the object is the root.
 pub(crate) fn image_in_a_cycle(rt: &impl Abort, alloc: Global) -> Result<Image, OutOfMemory>
     ensures lawful { IfOk result (λ image. IsLawful (image_of image)) }
-    ensures small { IfOk result (λ image. AreSmall (sizes_of image.shape)) }
+    ensures shape { IfOk result (λ image. image.shape ≡ SHAPE) }
 {
     let image = image_with_an_object(rt, alloc)?;
     begin_on(rt, alloc, image, Policy::Never)
@@ -142,7 +142,7 @@ pub(crate) fn image_to_mark<L: Ledger>(
     requires parts { blank.parts ≡ L.parts }
     requires one { blank.parts ≡ 1 }
     ensures lawful { IfOk result (λ image. IsLawful (image_of image)) }
-    ensures small { IfOk result (λ image. AreSmall (sizes_of image.shape)) }
+    ensures shape { IfOk result (λ image. image.shape ≡ SHAPE) }
 {
     let (shared, mut first) = open_fresh(alloc, SHAPE)?;
     let mut one = first.split(&shared, 0, &[]);
@@ -207,7 +207,7 @@ pub(crate) fn image_to_move<L: Ledger>(
     requires parts { blank.parts ≡ L.parts }
     requires one { blank.parts ≡ 1 }
     ensures lawful { IfOk result (λ image. IsLawful (image_of image)) }
-    ensures small { IfOk result (λ image. AreSmall (sizes_of image.shape)) }
+    ensures shape { IfOk result (λ image. image.shape ≡ SHAPE) }
 {
     let (shared, mut first) = open_fresh(alloc, SHAPE)?;
     let mut one = first.split(&shared, 0, &[]);
@@ -229,6 +229,7 @@ pub(crate) fn open_with_roots(
     requires small { AreSmall (sizes_of image.shape) }
     requires lawful { IsLawful (image_of image) }
     ensures caller { IfOk result (λ t. IsOf t.0 t.1) }
+    ensures opened { IfOk result (λ t. (view t.1).opening ≡ opening_of image) }
     ensures number { IfOk result (λ t. (view t.1).number ≡ 12) }
     ensures numbers { IfOk result (λ t. (view t.1).numbers ≡ numbers_below 13) }
     ensures roots { IfOk result (λ t. AreIn t.2.items (view t.1).hands) }
