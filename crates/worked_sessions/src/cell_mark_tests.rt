@@ -24,12 +24,12 @@ use std::process::Abort;
 use std::sync::ledger::{Blank, Ledger};
 
 /// The word of the trusted cell at index 1, unmarked.
-const UNMARKED: u64 = 0x000f_0000_0000_00d0;
+pub(crate) const UNMARKED: u64 = 0x000f_0000_0000_00d0;
 
-const MARKED: u64 = 0x400f_0000_0000_00d0;
+pub(crate) const MARKED: u64 = 0x400f_0000_0000_00d0;
 
 /// A marker loads the trusted field of object 0, which is in its hands, and the entry that it names, which is not marked.
-fn find_in_hands(rt: &impl Abort, shared: &Shared, s: &mut Session)
+pub(crate) fn find_in_hands(rt: &impl Abort, shared: &Shared, s: &mut Session)
     requires caller { IsOf shared.now s.old }
     requires hands { InHands (view s.old) 0 }
     requires shape { (view s.old).opening.shape ≡ SHAPE }
@@ -45,7 +45,7 @@ fn find_in_hands(rt: &impl Abort, shared: &Shared, s: &mut Session)
 }
 
 /// A mutator names the trusted field of object 0, which variable 0 holds, and loads the entry that it names, which is not marked.
-fn find_held(rt: &impl Abort, shared: &Shared, s: &mut Session)
+pub(crate) fn find_held(rt: &impl Abort, shared: &Shared, s: &mut Session)
     requires caller { IsOf shared.now s.old }
     requires mutator { (view s.old).number < 8 }
     requires shape { (view s.old).opening.shape ≡ SHAPE }
@@ -64,7 +64,7 @@ fn find_held(rt: &impl Abort, shared: &Shared, s: &mut Session)
 }
 
 /// Tries to mark the entry that was found. The answer is the word that the exchange finds.
-fn mark_found(shared: &Shared, s: &mut Session) -> u64
+pub(crate) fn mark_found(shared: &Shared, s: &mut Session) -> u64
     requires caller { IsOf shared.now s.old }
     requires shape { (view s.old).opening.shape ≡ SHAPE }
     requires touched { Has (view s.old).facts (fact.Touched (field.Trusted 0) 65536) }

@@ -1,5 +1,5 @@
 // Images in a cycle, with and without an area, and tables that are opened on them.
-ghost use Rattle.std.specs.Prelude.{◌≡◌, ◌<◌, None, IfOk};
+ghost use Rattle.std.specs.Prelude.{◌≡◌, ◌+◌, ◌<◌, None, IfOk};
 ghost use Rattle.plain_table.specs.Shows.{IsLawful};
 ghost use Rattle.word_laws.specs.Small.{AreSmall};
 ghost use Rattle.entry_word.specs.Image.{image_of, sizes_of};
