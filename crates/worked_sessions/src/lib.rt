@@ -1,8 +1,11 @@
 //! Worked sessions: phases of an open table whose steps are made one by one, on one thread and on two, and whose images are
 //! compared with the words that were expected.
 //!
-//! This crate has no code but its tests: `openings.rt` opens tables of fresh images, and the files of tests make each kind of
-//! step once (`entry_tests.rt`, `object_tests.rt`, `mark_tests.rt`) and hand sessions and chunks over (`session_tests.rt`).
+//! This crate has no code but its tests. `openings.rt`, `cycles.rt` and `closings.rt` open tables outside and in cycles and close
+//! them, and `fillings.rt` makes objects and cells. The files of tests make each kind of step, both sides of each exchange:
+//! `entry_tests.rt`, `trusted_tests.rt`, `field_tests.rt`, `object_tests.rt`, `segment_tests.rt`, `limit_tests.rt`, and in cycles
+//! `mark_tests.rt`, `cell_mark_tests.rt`, `scan_tests.rt` and `area_tests.rt`; `session_tests.rt` and `thread_tests.rt` hand
+//! sessions and chunks over, and make the same try on two threads at once.
 #![tactic(auto)]
 
 #[cfg(test)]

@@ -1,5 +1,5 @@
 // Two threads: each makes the same try at once, of which one or both win; the image has the words that follow from the answers.
-ghost use Rattle.std.specs.Prelude.{◌≡◌, ◌<◌, [], ◌∷◌};
+ghost use Rattle.std.specs.Prelude.{◌≡◌, ◌<◌, ℕ, [], ◌∷◌};
 ghost use Rattle.plain_table.specs.declared.events.Field.TheVariants as field;
 ghost use Rattle.plain_table.specs.declared.events.Space.TheVariants.{External, Trusted};
 ghost use Rattle.entry_base.specs.declared.view.Fact.TheVariants as fact;
@@ -90,7 +90,7 @@ fn try_take<L: Ledger>(shared: &Shared, mut s: Session, blank: Blank) -> (Sessio
     }
 }
 
-fn both_take<R: Threads + Sync, L: Ledger, M: Ledger>(
+fn both_take<R: Threads + Sync, L: Ledger + Send + Sync, M: Ledger + Send + Sync>(
     rt: &R,
     shared: &Shared,
     one: (Session, Blank),
