@@ -1,5 +1,5 @@
 -- A session that gave numbers away and took their sessions in again has all numbers.
-use Rattle.std.proofs.Common.{◌≡◌, ℕ, ◌≤◌, List, [], ◌∷◌, ◌++◌, true, nat_lt, refl, ap, ◌∙◌, arith}
+use Rattle.std.proofs.Common.{◌≡◌, ◌≢◌, ℕ, ◌+◌, ◌≤◌, ◌==◌, Bool, List, [], ◌∷◌, ◌++◌, true, false, if◌then◌else◌, nat_lt, refl, sym, ap, ◌∙◌, arith}
 use Rattle.std.proofs.lemmas.Bool.Decides.{nat_tests}
 use Rattle.entry_base.specs.Lists.{count_in, without_one}
 use Rattle.entry_base.specs.Views.{numbers_below}
@@ -8,6 +8,13 @@ use Rattle.entry_base.proofs.Sums.{count_append, count_without}
 
 each_there : (m : ℕ) → m ≤ 12 → count_in m (numbers_below 13) ≡ 1
 each_there m low = count_numbers 13 m ∙ ap bit (let t : nat_lt m 13 ≡ true = grind (arith, nat_tests) in t)
+
+other_count : (k n : ℕ) → n ≢ k → count_in k (n ∷ []) ≡ 0
+other_count k n differ = go (k == n) refl
+  where
+    go : (b : Bool) → (k == n) ≡ b → (if b then 1 else 0) + 0 ≡ 0
+    go true is = absurd (differ (let e : k ≡ n = grind (arith, nat_tests) in sym e))
+    go false is = refl
 
 pub none_given : (v : List ℕ) → v ≡ numbers_below 13 → (m : ℕ) → m ≤ 12 → 1 ≤ count_in m v
 none_given v whole m low = let t = each_there m low in let c = ap (count_in m) whole in omega arith
@@ -23,14 +30,16 @@ one_back v u w n there left right joined m low =
     let e = ap (count_in m) right in
     omega arith
 
-pub two_back : (v u x w y : List ℕ) → v ≡ without_one 1 (without_one 0 (numbers_below 13)) → u ≡ 0 ∷ [] → x ≡ 1 ∷ [] → w ≡ v ++ u → y ≡ w ++ x
-    → (m : ℕ) → m ≤ 12 → 1 ≤ count_in m y
-two_back v u x w y left first second joined all m low =
+pub two_back : (v u x w y : List ℕ) (n k : ℕ) → n ≤ 12 → k ≤ 12 → n ≢ k → v ≡ without_one k (without_one n (numbers_below 13)) → u ≡ n ∷ [] → x ≡ k ∷ []
+    → w ≡ v ++ u → y ≡ w ++ x → (m : ℕ) → m ≤ 12 → 1 ≤ count_in m y
+two_back v u x w y n k one two differ left first second joined all m low =
     let t = each_there m low in
-    let o : count_in 0 (numbers_below 13) ≡ 1 = refl in
-    let a = count_without 0 (numbers_below 13) m (let z = o in omega arith) in
-    let p : count_in 1 (without_one 0 (numbers_below 13)) ≡ 1 = refl in
-    let a' = count_without 1 (without_one 0 (numbers_below 13)) m (let z = p in omega arith) in
+    let o = each_there n one in
+    let a = count_without n (numbers_below 13) m (let z = o in omega arith) in
+    let p = each_there k two in
+    let q = count_without n (numbers_below 13) k (let z = o in omega arith) in
+    let r : count_in k (n ∷ []) ≡ 0 = other_count k n differ in
+    let a' = count_without k (without_one n (numbers_below 13)) m (let z = p in let z' = q in let z'' = r in omega arith) in
     let b = count_append m v u in
     let b' = count_append m w x in
     let c = ap (count_in m) joined in

@@ -1,5 +1,5 @@
 // Tables that are closed by the first session and those that were split off it, and words of their images.
-ghost use Rattle.std.specs.Prelude.{◌≡◌, ◌≤◌, List, [], ◌∷◌, slice_index};
+ghost use Rattle.std.specs.Prelude.{◌≡◌, ◌≢◌, ◌≤◌, List, [], ◌∷◌, slice_index};
 ghost use Rattle.plain_table.specs.declared.events.Event.{Event};
 ghost use Rattle.plain_table.specs.Shows.{IsLawful};
 ghost use Rattle.entry_word.specs.Image.{image_of, sizes_of};
@@ -19,6 +19,18 @@ pub(crate) fn word_at(rt: &impl Abort, image: &Image, place: usize) -> u64
 {
     assert!(rt; place < image.words.len());
     image.words[place]
+}
+
+/// The words at a place of an image before a phase and of one after it, which both have it.
+pub(crate) fn change_at(
+    rt: &impl Abort,
+    before: &Image,
+    after: &Image,
+    place: usize,
+) -> (u64, u64)
+    ensures { (result.0 ≡ slice_index before.now.words.items place) × (result.1 ≡ slice_index after.now.words.items place) }
+{
+    (word_at(rt, before, place), word_at(rt, after, place))
 }
 
 /// Closes a table by a session that has the numbers of the first one.
@@ -46,11 +58,13 @@ pub(crate) fn close_both(shared: Shared, mut first: Session, one: Session) -> Im
     shared.finish(first)
 }
 
-/// Closes a table by the first session and those with the numbers 0 and 1, which were split off it.
+/// Closes a table by the first session and two that were split off it, the first of them first.
 pub(crate) fn close_three(shared: Shared, mut first: Session, one: Session, two: Session) -> Image
     requires callers { IsOf shared first × IsOf shared one × IsOf shared two }
-    requires given { (view first).numbers ≡ without_one 1 (without_one 0 (numbers_below 13)) }
-    requires back { ((view one).numbers ≡ 0 ∷ []) × ((view two).numbers ≡ 1 ∷ []) }
+    requires low { ((view one).number ≤ 12) × ((view two).number ≤ 12) }
+    requires differ { (view one).number ≢ (view two).number }
+    requires given { (view first).numbers ≡ without_one (view two).number (without_one (view one).number (numbers_below 13)) }
+    requires back { ((view one).numbers ≡ (view one).number ∷ []) × ((view two).numbers ≡ (view two).number ∷ []) }
     ensures lawful { IsLawful (image_of result) }
     ensures sizes { sizes_of result.shape ≡ sizes_in (opened_with shared) }
 {

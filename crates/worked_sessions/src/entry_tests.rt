@@ -14,71 +14,16 @@ ghost use Rattle.entry_base.specs.Sessions.{view, IsOf};
 ghost use Rattle.entry_base.specs.Views.{numbers_below};
 
 use crate::closings::{close_both, close_whole, word_at};
-use crate::openings::open_fresh;
+use crate::fillings::{take_head, take_two};
+use crate::openings::{SHAPE, open_fresh};
 use entry_base::{Session, Shared};
 use entry_rule::{exchange_step, look_step, put_external, put_trusted, store_step};
-use entry_word::{Image, Shape};
 use freelist_rule::{Steps, load_freelist, load_freelist_for_take, load_link, take_step};
 use plain_table::{OutOfMemory, Space};
 use std::alloc::Global;
 use std::marker::Brand;
 use std::process::Abort;
 use std::sync::ledger::{Blank, Ledger};
-
-pub(crate) const SHAPE: Shape = Shape {
-    seg: 4,
-    ext: 2,
-    tru: 1,
-    objects: 4,
-};
-
-/// Takes the head of a space, whose freelist word is expected to be `word`, and whose head links `next`.
-pub(crate) fn take_head<L: Ledger>(
-    rt: &impl Abort,
-    shared: &Shared,
-    s: &mut Session,
-    space: Space,
-    word: u64,
-    next: u32,
-    steps: &mut Steps<L>,
-) -> u32
-    requires caller { IsOf shared.now s.old }
-    ensures caller { IsOf shared.now s.new }
-    ensures same { SameCaller (view s.old) (view s.new) }
-    ensures head { result ≡ word % 2 ^ 32 }
-    ensures inside { result < limit_in (sizes_in (view s.new).opening) space }
-    ensures owed { Has (view s.new).owed (claim_of (view s.new) space result) }
-    ensures ticked { steps.new ≡ steps.old + 1 }
-{
-    let found = load_freelist(shared, s, space);
-    assert_eq!(rt; found, word);
-    assert!(rt; found / (1 << 32) != 0);
-    let link = load_link(shared, s, space, found);
-    assert_eq!(rt; link, (1 << 56) + next as u64);
-    let Ok(index) = take_step(shared, s, space, found, next, steps) else {
-        panic!(rt; "the freelist word changed");
-    };
-    index
-}
-
-/// Takes the two last indexes of the first segment of a space.
-pub(crate) fn take_two<L: Ledger>(
-    rt: &impl Abort,
-    shared: &Shared,
-    s: &mut Session,
-    space: Space,
-    steps: &mut Steps<L>,
-)
-    requires caller { IsOf shared.now s.old }
-    ensures caller { IsOf shared.now s.new }
-    ensures same { SameCaller (view s.old) (view s.new) }
-    ensures ticked { steps.new ≡ steps.old + 2 }
-{
-    let second = take_head(rt, shared, s, space, 0x2_0000_0002, 3, steps);
-    let third = take_head(rt, shared, s, space, 0x1_0000_0003, 4, steps);
-    assert_eq!(rt; second, 2);
-    assert_eq!(rt; third, 3);
-}
 
 /// Looks at the external cell at index 1 under its tag, which answers its value.
 fn look_under_tag(rt: &impl Abort, shared: &Shared, s: &mut Session)

@@ -12,6 +12,15 @@ use entry_word::{Image, Shape};
 use plain_table::OutOfMemory;
 use std::alloc::Global;
 
+/// Two external segments of four entries and a trusted one, and four objects: the external entries stand from word 64 on, the
+/// trusted ones from word 72 on.
+pub(crate) const SHAPE: Shape = Shape {
+    seg: 4,
+    ext: 2,
+    tru: 1,
+    objects: 4,
+};
+
 /// Opens the table of a fresh image: outside a cycle, with no area.
 pub(crate) fn open_fresh(alloc: Global, shape: Shape) -> Result<(Shared, Session), OutOfMemory>
     requires { IsValidShape shape }

@@ -7,8 +7,8 @@ ghost use Rattle.entry_base.specs.Lists.{Has};
 ghost use Rattle.entry_base.specs.Sessions.{view, IsOf};
 
 use crate::closings::{close_both, word_at};
-use crate::entry_tests::{SHAPE, take_head, take_two};
-use crate::openings::open_fresh;
+use crate::fillings::{take_head, take_two};
+use crate::openings::{SHAPE, open_fresh};
 use entry_base::{Session, Shared};
 use freelist_rule::{Steps, commit_step, link_entry, load_freelist};
 use plain_table::{OutOfMemory, Space};
@@ -18,7 +18,7 @@ use std::process::Abort;
 use std::sync::ledger::{Blank, Ledger};
 
 /// Takes the three indexes of the first external segment.
-fn take_three<L: Ledger>(rt: &impl Abort, shared: &Shared, s: &mut Session, steps: &mut Steps<L>)
+pub(crate) fn take_three<L: Ledger>(rt: &impl Abort, shared: &Shared, s: &mut Session, steps: &mut Steps<L>)
     requires caller { IsOf shared.now s.old }
     ensures caller { IsOf shared.now s.new }
     ensures same { SameCaller (view s.old) (view s.new) }
@@ -30,7 +30,7 @@ fn take_three<L: Ledger>(rt: &impl Abort, shared: &Shared, s: &mut Session, step
 }
 
 /// Links two entries of the segment that comes next.
-fn link_two(shared: &Shared, s: &mut Session, index: u32)
+pub(crate) fn link_two(shared: &Shared, s: &mut Session, index: u32)
     requires caller { IsOf shared.now s.old }
     requires few { index < 7 }
     requires shape { (view s.old).opening.shape.seg ≡ 4 }
@@ -45,7 +45,7 @@ fn link_two(shared: &Shared, s: &mut Session, index: u32)
 }
 
 /// Commits the segment from index 4 on, all of whose entries were linked. The answer is the word found.
-fn commit_linked(shared: &Shared, s: &mut Session) -> u64
+pub(crate) fn commit_linked(shared: &Shared, s: &mut Session) -> u64
     requires caller { IsOf shared.now s.old }
     requires loaded { (takes : ℕ) × Has (view s.old).facts (fact.Freelist External 4 takes) }
     requires shape { (view s.old).opening.shape.seg ≡ 4 }

@@ -3,20 +3,13 @@ ghost use Rattle.std.specs.Prelude.{◌≡◌};
 ghost use Rattle.entry_base.specs.Sessions.{view, IsOf};
 
 use crate::closings::{close_both, close_whole};
-use crate::openings::open_fresh;
+use crate::openings::{SHAPE, open_fresh};
 use entry_base::{Session, Shared};
-use entry_word::{Image, Shape};
+use entry_word::Image;
 use object_rule::load_count;
 use plain_table::OutOfMemory;
 use std::alloc::Global;
 use std::thread::{Threads, join};
-
-const SHAPE: Shape = Shape {
-    seg: 4,
-    ext: 2,
-    tru: 1,
-    objects: 4,
-};
 
 #[test]
 fn a_phase_without_a_step_leaves_the_image_as_it_was(rt: HostRuntime) -> Result<(), OutOfMemory> {

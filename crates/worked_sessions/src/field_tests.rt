@@ -1,0 +1,152 @@
+// Fields, references and globals on one thread: each is named or got before and after it is bound, forged or linked.
+ghost use Rattle.std.specs.Prelude.{◌≡◌, ◌+◌, ◌%◌, ◌^◌, ◌<◌, None};
+ghost use Rattle.plain_table.specs.declared.events.Space.TheVariants.{External, Trusted};
+ghost use Rattle.plain_table.specs.Table.{limit_in};
+ghost use Rattle.entry_base.specs.Callers.{SameCaller};
+ghost use Rattle.entry_base.specs.Openings.{phase_of, sizes_in, start_of};
+ghost use Rattle.entry_base.specs.Owns.{IsHeld};
+ghost use Rattle.entry_base.specs.Sessions.{view, IsOf};
+
+use crate::closings::{change_at, close_both};
+use crate::fillings::{make_next, put_next};
+use crate::openings::{SHAPE, open_fresh};
+use entry_base::{Session, Shared};
+use entry_word::Image;
+use freelist_rule::Steps;
+use object_rule::{
+    bind_external, forge_step, get_global, get_reference, link_global, link_reference, name_external,
+};
+use plain_table::OutOfMemory;
+use std::alloc::Global;
+use std::marker::Brand;
+use std::process::Abort;
+use std::sync::ledger::{Blank, Ledger};
+
+/// Puts the next external cell, and tries to bind it to external field 0 of object 0, which variable 0 holds. The answer is the word
+/// that was found.
+fn bind_next<L: Ledger>(
+    rt: &impl Abort,
+    shared: &Shared,
+    s: &mut Session,
+    word: u64,
+    next: u32,
+    value: u64,
+    steps: &mut Steps<L>,
+) -> u64
+    requires caller { IsOf shared.now s.old }
+    requires mutator { (view s.old).number < 8 }
+    requires no_area { start_of (view s.old).opening ≡ None }
+    requires small { value < 2 ^ 48 }
+    ensures caller { IsOf shared.now s.new }
+    ensures same { SameCaller (view s.old) (view s.new) }
+    ensures ticked { steps.new ≡ steps.old + 1 }
+{
+    let index = put_next(rt, shared, s, word, next, value, steps);
+    assert_eq!(rt; s.held(0), Some(0));
+    bind_external(shared, s, 0, 65536 * index)
+}
+
+/// The word of an external field of object 0, which variable 0 holds.
+fn field_word(rt: &impl Abort, shared: &Shared, s: &mut Session, f: u32) -> u64
+    requires caller { IsOf shared.now s.old }
+    requires mutator { (view s.old).number < 8 }
+    requires few { f < 2 }
+    ensures caller { IsOf shared.now s.new }
+    ensures same { SameCaller (view s.old) (view s.new) }
+{
+    assert_eq!(rt; s.held(0), Some(0));
+    name_external(shared, s, f)
+}
+
+fn bind_twice<L: Ledger>(rt: &impl Abort, alloc: Global, blank: Blank) -> Result<(), OutOfMemory>
+    requires name { blank.name ≡ L.name }
+    requires parts { blank.parts ≡ L.parts }
+    requires one { blank.parts ≡ 1 }
+{
+    let before = Image::fresh(alloc, SHAPE)?;
+    let (shared, mut first) = open_fresh(alloc, SHAPE)?;
+    let mut one = first.split(&shared, 0, &[]);
+    assert_eq!(rt; one.area(), None);
+    let mut steps = Steps::<L>::start(blank);
+    make_next(rt, &shared, &mut one, 0, 0);
+    let empty = field_word(rt, &shared, &mut one, 0);
+    let won = bind_next(rt, &shared, &mut one, 0x3_0000_0001, 2, 0xc0, &mut steps);
+    let bound = field_word(rt, &shared, &mut one, 0);
+    let taken = bind_next(rt, &shared, &mut one, 0x2_0000_0002, 3, 0xd0, &mut steps);
+    let after = close_both(shared, first, one);
+    assert_eq!(rt; empty, 0);
+    assert_eq!(rt; won, 0);
+    assert_eq!(rt; bound, 0x1_0000);
+    assert_eq!(rt; taken, 0x1_0000);
+    assert_eq!(rt; change_at(rt, &before, &after, 37), (0, 0x1_0000));
+    assert_eq!(rt; change_at(rt, &before, &after, 65), ((1 << 56) + 2, 0x400f_0000_0000_00c0));
+    assert_eq!(rt; change_at(rt, &before, &after, 66), ((1 << 56) + 3, 0x400f_0000_0000_00d0));
+    Ok(())
+}
+
+#[test]
+fn an_external_field_is_bound_once(rt: HostRuntime) -> Result<(), OutOfMemory> {
+    bind_twice::<Brand>(&rt, rt.alloc(), Blank::new(1))
+}
+
+#[test]
+fn any_word_is_forged_into_an_external_field(rt: HostRuntime) -> Result<(), OutOfMemory> {
+    let before = Image::fresh(rt.alloc(), SHAPE)?;
+    let (shared, mut first) = open_fresh(rt.alloc(), SHAPE)?;
+    let mut one = first.split(&shared, 0, &[]);
+    make_next(&rt, &shared, &mut one, 0, 0);
+    assert_eq!(rt; field_word(&rt, &shared, &mut one, 1), 0);
+    assert_eq!(rt; one.held(0), Some(0));
+    forge_step(&shared, &mut one, 1, 0xffff_0007);
+    assert_eq!(rt; field_word(&rt, &shared, &mut one, 1), 0xffff_0007);
+    let after = close_both(shared, first, one);
+    assert_eq!(rt; change_at(&rt, &before, &after, 38), (0, 0xffff_0007));
+    assert_eq!(rt; change_at(&rt, &before, &after, 37), (0, 0));
+    Ok(())
+}
+
+#[test]
+fn a_global_that_holds_nothing_is_got_linked_and_emptied(
+    rt: HostRuntime,
+) -> Result<(), OutOfMemory> {
+    let before = Image::fresh(rt.alloc(), SHAPE)?;
+    let (shared, mut first) = open_fresh(rt.alloc(), SHAPE)?;
+    let mut one = first.split(&shared, 0, &[]);
+    make_next(&rt, &shared, &mut one, 0, 0);
+    assert_eq!(rt; get_global(&shared, &mut one, 1, 3), 0);
+    assert_eq!(rt; one.held(1), None);
+    assert_eq!(rt; one.held(0), Some(0));
+    link_global(&shared, &mut one, 3, Some(0), 1);
+    link_global(&shared, &mut one, 4, Some(0), 1);
+    link_global(&shared, &mut one, 4, None, 0);
+    assert_eq!(rt; get_global(&shared, &mut one, 1, 3), 1);
+    assert_eq!(rt; get_global(&shared, &mut one, 2, 4), 0);
+    assert_eq!(rt; one.held(1), Some(0));
+    assert_eq!(rt; one.held(2), None);
+    let after = close_both(shared, first, one);
+    assert_eq!(rt; change_at(&rt, &before, &after, 19), (0, 1));
+    assert_eq!(rt; change_at(&rt, &before, &after, 20), (0, 0));
+    Ok(())
+}
+
+#[test]
+fn a_reference_that_holds_nothing_is_got_linked_and_emptied(
+    rt: HostRuntime,
+) -> Result<(), OutOfMemory> {
+    let before = Image::fresh(rt.alloc(), SHAPE)?;
+    let (shared, mut first) = open_fresh(rt.alloc(), SHAPE)?;
+    let mut one = first.split(&shared, 0, &[]);
+    assert_eq!(rt; one.in_cycle(), false);
+    make_next(&rt, &shared, &mut one, 0, 0);
+    assert_eq!(rt; one.held(0), Some(0));
+    assert_eq!(rt; get_reference(&shared, &mut one, 1, 0, 2), 0);
+    assert_eq!(rt; one.held(1), None);
+    assert_eq!(rt; one.held(0), Some(0));
+    link_reference(&shared, &mut one, 0, 2, Some(0), 1);
+    link_reference(&shared, &mut one, 0, 3, Some(0), 1);
+    link_reference(&shared, &mut one, 0, 3, None, 0);
+    let after = close_both(shared, first, one);
+    assert_eq!(rt; change_at(&rt, &before, &after, 35), (0, 1));
+    assert_eq!(rt; change_at(&rt, &before, &after, 36), (0, 0));
+    Ok(())
+}
