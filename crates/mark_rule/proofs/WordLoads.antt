@@ -24,7 +24,7 @@ use Rattle.entry_base.specs.declared.view.View.{View}
 use Rattle.entry_base.specs.Callers.{IsCaller}
 use Rattle.entry_base.specs.Facts.{IsKnown}
 use Rattle.entry_base.specs.Lists.{Each}
-use Rattle.entry_base.specs.Openings.{sizes_in}
+use Rattle.entry_base.specs.Openings.{IsBase, sizes_in}
 use Rattle.entry_base.specs.Passed.{field_of}
 use Rattle.entry_base.specs.Rule.{Kept}
 use Rattle.entry_base.proofs.Steps.{Given, Keeps, given, keeps_by}
@@ -119,5 +119,8 @@ loads_word key slots id me o n caller has few =
       record {
         loaded = done.1;
         small = small key v o n caller has few words views id k at (after k.base k.log) (given key words views id v k at k.base k.is_base);
+        stands = λ b base.
+            let g = given key words views id v k at b (subst (λ (x : Opening). IsBase x b) caller.opened base) in
+            sym (word_is key v o n caller has few words views id k at (after b k.log) g);
       },
     ))
