@@ -1,5 +1,5 @@
 -- One call after another, and rows of them.
-use Rattle.std.proofs.Common.{◌≡◌, ℕ, ◌+◌, ◌*◌, ◌==◌, if◌then◌else◌, Bool, true, false, List, [], ◌∷◌, ◌++◌, slice_index, slice_index_or, Option, None, option_map, refl, sym, ap, subst, subst₂, ◌∙◌, inl, inr, arith, append_assoc, append-nil}
+use Rattle.std.proofs.Common.{◌≡◌, ℕ, ◌+◌, ◌*◌, ◌==◌, if◌then◌else◌, Bool, true, List, [], ◌∷◌, ◌++◌, slice_index, slice_index_or, Option, None, option_map, refl, sym, ap, subst, subst₂, ◌∙◌, inl, inr, arith, append_assoc, append-nil}
 use Rattle.std.proofs.lemmas.Bool.Decides.{nat_tests}
 use Rattle.plain_table.specs.declared.events.Event.{Event}
 use Rattle.plain_table.specs.declared.scripts.Op.{Op}
@@ -85,14 +85,18 @@ EndsWith-last [] e front seen is = (front, is)
 EndsWith-last (d ∷ []) e front seen is = (front, is)
 EndsWith-last (d ∷ c ∷ es) e front seen is = EndsWith-last (c ∷ es) e front seen is
 
+-- the ticket stays where the cells to publish do
+pub pends_stay : (v w : View) → SameCaller v w → w.pending ≡ v.pending → ticket_in v ≡ ticket_in w
+pends_stay v w s pending = subst (λ n. ticket_in v ≡ option_map (λ (p : Pending). p.index) (slice_index_or w.pending n None)) (sym s.number)
+    (ap (λ (l : List (Option Pending)). option_map (λ (p : Pending). p.index) (slice_index_or l v.number None)) (sym pending))
+
 -- what the model has goes through a call that leaves variables and tickets alone
 pub suits_stay : (v w : View) → SameCaller v w → w.vars ≡ v.vars → w.pending ≡ v.pending → (cycle : Option Cycle) (held : Held) (own : OwnTicket) → Suits v cycle held own → Suits w cycle held own
 suits_stay v w s vars pending cycle held own a = record {
   phase = subst (λ o. phase_word cycle ≡ phase_of o) (sym s.opening) a.phase;
   start = subst (λ o. start_in cycle ≡ start_of o) (sym s.opening) a.start;
   holds = λ i low. subst (λ n. slice_index w.vars (16 * n + i) ≡ object_word (held i)) (sym s.number) (subst (λ l. slice_index l (16 * v.number + i) ≡ object_word (held i)) (sym vars) (a.holds i low));
-  pends = a.pends ∙ ap with_ticket (subst (λ n. ticket_in v ≡ option_map (λ (p : Pending). p.index) (slice_index_or w.pending n None)) (sym s.number)
-      (ap (λ (l : List (Option Pending)). option_map (λ (p : Pending). p.index) (slice_index_or l v.number None)) (sym pending)));
+  pends = a.pends ∙ ap with_ticket (pends_stay v w s pending);
 }
 
 pub made_none : (v : View) → MadeAll v [] [] v

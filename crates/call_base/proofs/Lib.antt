@@ -1,1 +1,3 @@
 pub mod CallsInOrder
+pub mod OneEvent
+pub mod HeldVariables

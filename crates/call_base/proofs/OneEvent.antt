@@ -1,0 +1,59 @@
+-- Calls of no event and of one.
+use Rattle.std.proofs.Common.{◌≡◌, List, [], ◌∷◌, ◌++◌, Option, sym, subst₂, refl}
+use Rattle.plain_table.specs.declared.events.Act.{Act}
+use Rattle.plain_table.specs.declared.events.Event.{Event}
+use Rattle.plain_table.specs.declared.scripts.Op.{Op}
+use Rattle.plain_table.specs.declared.reports.Reply.{Reply}
+use Rattle.plain_table.specs.Cycle.{Cycle}
+use Rattle.plain_table.specs.Shapes.{Held, OwnTicket, IsShape, held_after, held_next, own_after, own_next}
+use Rattle.entry_base.specs.declared.view.View.{View}
+use Rattle.entry_base.specs.Callers.{SameCaller, Extends, event_of}
+use Rattle.entry_base.specs.Numbers.{HasNumber}
+use Rattle.call_base.specs.Called.{Called, EndsWith, Made, Suits}
+use Rattle.call_base.proofs.CallsInOrder.{EndsWith-last, called_extends, called_none, suits_stay}
+
+-- a step with one event of the caller's number
+pub called_once : (v w : View) (act : Act) (said : Reply) → HasNumber v v.number → SameCaller v w → Extends v (event_of v act said) w → Called v (event_of v act said ∷ []) w
+called_once v w act said own same extends = called_extends v w (event_of v act said) refl own same extends
+
+pub ends_once : (v w : View) (e : Event) → Extends v e w → EndsWith (e ∷ []) w.seen
+ends_once v w e extends = (v.seen ++ extends.between, extends.seen)
+
+-- and where it comes after the others of its call
+pub ends_then : (v w : View) (es : List Event) (e : Event) → Extends v e w → EndsWith (es ++ e ∷ []) w.seen
+ends_then v w es e extends = EndsWith-last es e (v.seen ++ extends.between) w.seen extends.seen
+
+-- the call has this shape, whatever the model has that suits the view
+abbrev pub HasShape : View → Op → Reply → List Event → Type 0
+HasShape v call said events =
+    (cycle : Option Cycle) (held : Held) (own : OwnTicket) → Suits v cycle held own → IsShape v.number cycle held own.ticket call said events
+
+-- a call without an event
+pub made_still : (v : View) (call : Op) (said : Reply) → HasShape v call said [] → Made v call said v
+made_still v call said shape = record {
+  own = [];
+  called = called_none v;
+  ends = tt;
+  shape = shape;
+  suits = λ cycle held own suits. suits;
+}
+
+-- a call whose events leave variables and ticket, in the model as in the view
+pub made_stays : (v w : View) (call : Op) (said : Reply) (events : List Event) → Called v events w → EndsWith events w.seen → HasShape v call said events
+    → ((cycle : Option Cycle) (held : Held) (own : OwnTicket) → Suits v cycle held own → Suits w cycle held own)
+    → ((held : Held) → held_after held events ≡ held) → ((own : OwnTicket) → own_after own events ≡ own) → Made v call said w
+made_stays v w call said events called ends shape suits held_still own_still = record {
+  own = events;
+  called = called;
+  ends = ends;
+  shape = shape;
+  suits = λ cycle held own is. subst₂ (λ h t. Suits w cycle h t) (sym (held_still held)) (sym (own_still own)) (suits cycle held own is);
+}
+
+-- a call of one event that leaves variables and ticket
+pub made_once : (v w : View) (call : Op) (act : Act) (said : Reply) → HasNumber v v.number → SameCaller v w → w.vars ≡ v.vars → w.pending ≡ v.pending
+    → Extends v (event_of v act said) w → HasShape v call said (event_of v act said ∷ [])
+    → ((held : Held) → held_next held act said ≡ held) → ((own : OwnTicket) → own_next own act said ≡ own) → Made v call said w
+made_once v w call act said own same vars pending extends shape held_still own_still =
+    made_stays v w call said (event_of v act said ∷ []) (called_once v w act said own same extends) (ends_once v w (event_of v act said) extends) shape
+    (suits_stay v w same vars pending) held_still own_still
