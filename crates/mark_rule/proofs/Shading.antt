@@ -31,7 +31,7 @@ use Rattle.entry_base.proofs.Greys.{header_here, shaded_word}
 use Rattle.entry_base.proofs.OneByOne.{caller_stays, held_within_limit}
 use Rattle.entry_base.proofs.Steps.{Given, Keeps, Leaves, given, keeps_by, sees}
 use Rattle.entry_base.proofs.Sums.{count_self, each_has}
-use Rattle.mark_rule.specs.Marking.{Shaded}
+use Rattle.mark_rule.specs.Marking.{IsSeen, Shaded}
 use Rattle.mark_rule.proofs.Headers.{HeaderTells, IfSome-by, count_past, grey_of, hands_changed, header_tells}
 
 -- the hands after a shading, by the word that was found
@@ -144,8 +144,8 @@ module _ (key : Opening) (words : List ℕ) (views : List View) (id : ℕ) (v : 
       )
 
 -- an object that is known as old or born
-pub shades : (key : Opening) (slots id : ℕ) (me : Me (Unit {0}) View) (o : ℕ) → IsCaller key me.0 → o < (sizes_in me.0.opening).objects → Has me.0.facts (fact.Traced o) → Keeps key slots id me (header_place o) (λ n. bit_or n 1) (λ found w. Shaded me.0 o found w)
-shades key slots id me o caller made traced = keeps_by key slots id me (header_place o) (λ n. bit_or n 1) (λ found w. Shaded me.0 o found w) (λ words views k at.
+shades_traced : (key : Opening) (slots id : ℕ) (me : Me (Unit {0}) View) (o : ℕ) → IsCaller key me.0 → o < (sizes_in me.0.opening).objects → Has me.0.facts (fact.Traced o) → Keeps key slots id me (header_place o) (λ n. bit_or n 1) (λ found w. Shaded me.0 o found w)
+shades_traced key slots id me o caller made traced = keeps_by key slots id me (header_place o) (λ n. bit_or n 1) (λ found w. Shaded me.0 o found w) (λ words views k at.
     let low : o < (sizes_in key).objects = subst (λ x. o < (sizes_in x).objects) caller.opened made in
     let known = (λ (s : Table) (g : Given key k.log k.shown words me.0 s). (each_has _ me.0.facts (fact.Traced o) g.known traced).0) in
     let done = kept_shade key words views id me.0 o k at low known caller.opened in
@@ -162,7 +162,7 @@ shaded_calls key v o found w caller shaded made =
     go false = caller.hands
 
 -- and one that a variable of the caller holds, in a cycle
-pub shades_held : (key : Opening) (slots id : ℕ) (me : Me (Unit {0}) View) (o : ℕ) → IsCaller key me.0 → me.0.number < 8 → IsHeld me.0 o → phase_of me.0.opening ≡ 1 → Keeps key slots id me (header_place o) (λ n. bit_or n 1) (λ found w. Shaded me.0 o found w)
+shades_held : (key : Opening) (slots id : ℕ) (me : Me (Unit {0}) View) (o : ℕ) → IsCaller key me.0 → me.0.number < 8 → IsHeld me.0 o → phase_of me.0.opening ≡ 1 → Keeps key slots id me (header_place o) (λ n. bit_or n 1) (λ found w. Shaded me.0 o found w)
 shades_held key slots id me o caller mutator held in_cycle = keeps_by key slots id me (header_place o) (λ n. bit_or n 1) (λ found w. Shaded me.0 o found w) (λ words views k at.
     let made = held_within_limit key me.0 held.0 o caller held.1 in
     let known = (λ (s : Table) (g : Given key k.log k.shown words me.0 s).
@@ -179,3 +179,12 @@ shades_held key slots id me o caller mutator held in_cycle = keeps_by key slots 
     by_cycle s word sound None is phase = absurd (let t : 0 ≡ 1 = ap phase_word (sym is) ∙ phase in omega (arith, t))
     by_cycle s word sound (Some c) is phase =
         IsSomeAnd-by s.cycle c _ is ((CycleSound-is s c sound is).traced.variables me.0.number held.0 o (word_object (s.vars me.0.number held.0) (sym held.1.1 ∙ word)))
+
+-- one that the caller saw: it is within the limit
+pub seen_within_limit : (key : Opening) (v : View) (o : ℕ) → IsCaller key v → IsSeen v o → o < (sizes_in key).objects
+seen_within_limit key v o caller (inl h) = held_within_limit key v h.held.0 o caller h.held.1
+seen_within_limit key v o caller (inr t) = subst (λ x. o < (sizes_in x).objects) caller.opened t.within
+
+pub shades_seen : (key : Opening) (slots id : ℕ) (me : Me (Unit {0}) View) (o : ℕ) → IsCaller key me.0 → IsSeen me.0 o → Keeps key slots id me (header_place o) (λ n. bit_or n 1) (λ found w. Shaded me.0 o found w)
+shades_seen key slots id me o caller (inl h) = shades_held key slots id me o caller h.mutator h.held h.in_cycle
+shades_seen key slots id me o caller (inr t) = shades_traced key slots id me o caller t.within t.traced

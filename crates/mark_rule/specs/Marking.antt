@@ -20,7 +20,8 @@ use Rattle.entry_base.specs.declared.view.View.{View}
 use Rattle.entry_base.specs.Callers.{SameCaller, SameOwn, Looks, Extends, event_of}
 use Rattle.entry_base.specs.Learned.{Loaded}
 use Rattle.entry_base.specs.Lists.{Has, count_in, without_one}
-use Rattle.entry_base.specs.Openings.{IsBase, sizes_in}
+use Rattle.entry_base.specs.Openings.{IsBase, phase_of, sizes_in}
+use Rattle.entry_base.specs.Owns.{IsHeld}
 
 -- an object of the hands
 abbrev pub InHands : View → ℕ → Type 0
@@ -109,6 +110,20 @@ pub record MarkLoaded (v : View) (f : Field) (word found : ℕ) (w : View) : Typ
 pub record MarkExchanged (v : View) (p : Space) (i word found : ℕ) (w : View) : Type 0 where
   pub marked : Marked v p i (has_mark found) w
   pub found_marked : found ≢ word → IsTrue (has_mark found)
+
+-- an object that a variable of the caller holds, in a cycle; and one that it knows as old or born in the cycle
+pub record IsHeldInCycle (v : View) (o : ℕ) : Type 0 where
+  pub mutator : v.number < 8
+  pub held : IsHeld v o
+  pub in_cycle : phase_of v.opening ≡ 1
+
+pub record IsKnownTraced (v : View) (o : ℕ) : Type 0 where
+  pub within : o < (sizes_in v.opening).objects
+  pub traced : Has v.facts (fact.Traced o)
+
+-- the caller saw the object in a cycle, in a variable or in a reference
+abbrev pub IsSeen : View → ℕ → Type 0
+IsSeen v o = IsHeldInCycle v o ⊎ IsKnownTraced v o
 
 -- an object was shaded: it is known as shaded, and it is in the hands where it was white
 pub record Shaded (v : View) (o found : ℕ) (w : View) : Type 0 where

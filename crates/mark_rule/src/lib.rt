@@ -10,4 +10,4 @@ mod loads;
 mod marks;
 
 pub use loads::{load_entry, load_mark, load_reference, load_word};
-pub use marks::{mark_step, scan_step, shade_held, shade_step};
+pub use marks::{mark_step, scan_step, shade_seen};

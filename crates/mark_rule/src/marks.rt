@@ -6,11 +6,10 @@ ghost use Rattle.plain_table.specs.Table.{limit_in};
 ghost use Rattle.entry_base.specs.declared.view.Fact.TheVariants as fact;
 ghost use Rattle.entry_base.specs.declared.view.View.{View as Known};
 ghost use Rattle.entry_base.specs.Lists.{Has};
-ghost use Rattle.entry_base.specs.Openings.{sizes_in, phase_of};
-ghost use Rattle.entry_base.specs.Owns.{IsHeld};
+ghost use Rattle.entry_base.specs.Openings.{sizes_in};
 ghost use Rattle.entry_base.specs.Passed.{IsPassed, field_of};
 ghost use Rattle.entry_base.specs.Sessions.{view, IsOf};
-ghost use Rattle.mark_rule.specs.Marking.{MarkExchanged, Shaded, Scanned};
+ghost use Rattle.mark_rule.specs.Marking.{MarkExchanged, IsSeen, Shaded, Scanned};
 
 use entry_base::{Learning, Learns, Session, Shared};
 use plain_table::Space;
@@ -73,10 +72,9 @@ pub fn mark_step(
     mark_step_as::<Brand>(shared, s, space, object, f, word, entry)
 }
 
-fn shade_step_as<N: Learning>(shared: &Shared, s: &mut Session, object: u32) -> u64
+fn shade_seen_as<N: Learning>(shared: &Shared, s: &mut Session, object: u32) -> u64
     requires caller { IsOf shared.now s.old }
-    requires made { object < (sizes_in (view s.old).opening).objects }
-    requires traced { Has (view s.old).facts (fact.Traced object) }
+    requires seen { IsSeen (view s.old) object }
     requires picked { (found : ℕ) (v w : Known) → N.learns found v w ↔ Shaded v object found w }
     ensures caller { IsOf shared.now s.new }
     ensures learned { Shaded (view s.old) object result (view s.new) }
@@ -87,43 +85,16 @@ fn shade_step_as<N: Learning>(shared: &Shared, s: &mut Session, object: u32) -> 
         .fetch_or::<Learns<N>>(&mut s.seat, 32 + 8 * object as usize, SHADED)
 }
 
-/// Shades an object that is known as old or born in the cycle. The answer is its header as it was: where it was even, the object
-/// comes into the hands. This is no event.
-pub fn shade_step(shared: &Shared, s: &mut Session, object: u32) -> u64
+/// Shades an object that the caller saw in a cycle: that a variable of its own holds, or that it knows as old or born in the cycle,
+/// as one that a reference showed. The answer is its header as it was: where it was even, the object comes into the hands. This is
+/// no event.
+pub fn shade_seen(shared: &Shared, s: &mut Session, object: u32) -> u64
     requires caller { IsOf shared.now s.old }
-    requires made { object < (sizes_in (view s.old).opening).objects }
-    requires traced { Has (view s.old).facts (fact.Traced object) }
+    requires seen { IsSeen (view s.old) object }
     ensures caller { IsOf shared.now s.new }
     ensures learned { Shaded (view s.old) object result (view s.new) }
 {
-    shade_step_as::<Brand>(shared, s, object)
-}
-
-fn shade_held_as<N: Learning>(shared: &Shared, s: &mut Session, object: u32) -> u64
-    requires caller { IsOf shared.now s.old }
-    requires mutator { (view s.old).number < 8 }
-    requires held { IsHeld (view s.old) object }
-    requires in_cycle { phase_of (view s.old).opening ≡ 1 }
-    requires picked { (found : ℕ) (v w : Known) → N.learns found v w ↔ Shaded v object found w }
-    ensures caller { IsOf shared.now s.new }
-    ensures learned { Shaded (view s.old) object result (view s.new) }
-{
-    shared
-        .table
-        .shared
-        .fetch_or::<Learns<N>>(&mut s.seat, 32 + 8 * object as usize, SHADED)
-}
-
-/// Shades an object that a variable holds, in a cycle. The answer is as that of `shade_step`.
-pub fn shade_held(shared: &Shared, s: &mut Session, object: u32) -> u64
-    requires caller { IsOf shared.now s.old }
-    requires mutator { (view s.old).number < 8 }
-    requires held { IsHeld (view s.old) object }
-    requires in_cycle { phase_of (view s.old).opening ≡ 1 }
-    ensures caller { IsOf shared.now s.new }
-    ensures learned { Shaded (view s.old) object result (view s.new) }
-{
-    shade_held_as::<Brand>(shared, s, object)
+    shade_seen_as::<Brand>(shared, s, object)
 }
 
 fn scan_step_as<N: Learning>(shared: &Shared, s: &mut Session, object: u32) -> u64

@@ -8,7 +8,7 @@ ghost use Rattle.entry_base.specs.Sessions.{view, IsOf};
 ghost use Rattle.mark_rule.specs.Marking.{InHands};
 
 use entry_base::{Session, Shared};
-use mark_rule::{load_entry, load_reference, load_word, mark_step, scan_step, shade_held};
+use mark_rule::{load_entry, load_reference, load_word, mark_step, scan_step, shade_seen};
 use object_rule::link_reference;
 use plain_table::Space;
 
@@ -21,7 +21,7 @@ pub fn link_shaded(shared: &Shared, s: &mut Session, object: u32, k: u32, var: u
     requires in_cycle { phase_of (view s.old).opening ≡ 1 }
     ensures caller { IsOf shared.now s.new }
 {
-    shade_held(shared, s, target);
+    shade_seen(shared, s, target);
     link_reference(shared, s, object, k, Some(var), target + 1);
 }
 

@@ -3,8 +3,8 @@ use Rattle.entry_base.specs.Openings.{sizes_in}
 use Rattle.entry_base.proofs.Steps.{learned_at}
 use Rattle.entry_base.proofs.TiedParts.{tied_stays}
 use Rattle.mark_rule.specs.Marking.{Shaded}
-use Rattle.mark_rule.proofs.Shading.{shades, shaded_calls}
-use Rattle.mark_rule.proofs.marks.shade_step_as.Goals as goal
+use Rattle.mark_rule.proofs.Shading.{seen_within_limit, shaded_calls, shades_seen}
+use Rattle.mark_rule.proofs.marks.shade_seen_as.Goals as goal
 
 pub fetch_or-requires : goal.fetch_or-requires
 fetch_or-requires g c =
@@ -12,11 +12,11 @@ fetch_or-requires g c =
     let sized = c.args.shared.now.sized in
     let limits = c.args.shared.now.limits in
     let made = c.args.shared.now.made in
-    let same = ap (λ k. (sizes_in k).objects) r.caller.1.opened in (
+    let low = seen_within_limit _ c.args.s.now.seat.me.0 c.args.object r.caller.1 r.seen in (
       r.caller.0,
-      omega (arith, r.made, same),
+      omega (arith, low),
       learned_at _ _ _ c.args.s.now.seat.me _ _ (λ n. bit_or n 1) _ (λ found w. Shaded c.args.s.now.seat.me.0 c.args.object found w) _ (refl) (λ n. refl) (λ n w learned. (r.picked n c.args.s.now.seat.me.0 w).1 learned)
-          (shades _ _ _ c.args.s.now.seat.me c.args.object r.caller.1 r.made r.traced),
+          (shades_seen _ _ _ c.args.s.now.seat.me c.args.object r.caller.1 r.seen),
     )
 
 pub invariant_of-s : goal.invariant_of-s
@@ -32,4 +32,4 @@ pub returns-clause-caller : goal.returns-clause-caller
 returns-clause-caller g c =
     let r = c.requires in
     let t : Shaded c.args.s.now.seat.me.0 c.args.object c.fetch_or.result c.fetch_or.new.seat.me.0 = (r.picked _ c.args.s.now.seat.me.0 _).0 c.fetch_or.ensures.2.0 in
-    (c.fetch_or.ensures.0 ∙ r.caller.0, shaded_calls _ _ _ _ _ r.caller.1 t (subst (λ k. c.args.object < (sizes_in k).objects) r.caller.1.opened r.made))
+    (c.fetch_or.ensures.0 ∙ r.caller.0, shaded_calls _ _ _ _ _ r.caller.1 t (seen_within_limit _ c.args.s.now.seat.me.0 c.args.object r.caller.1 r.seen))
