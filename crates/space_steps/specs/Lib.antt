@@ -1,0 +1,4 @@
+pub mod Areas
+pub mod Segments
+pub mod Takes
+pub mod Tickets
