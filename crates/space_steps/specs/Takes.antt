@@ -1,5 +1,5 @@
 -- The events of takes, and how often a take tries.
-use Rattle.std.specs.Prelude.{◌≡◌, ◌≢◌, ℕ, ◌+◌, ◌<◌, ◌≤◌, ◌==◌, not, List, [], ◌∷◌, ◌++◌}
+use Rattle.std.specs.Prelude.{◌≡◌, ℕ, ◌+◌, ◌≤◌, ◌==◌, not, List, [], ◌∷◌, ◌++◌}
 use Rattle.std.specs.List.{filter}
 use Rattle.plain_table.specs.declared.events.Act.{Act}
 use Rattle.plain_table.specs.declared.events.Event.{Event}
@@ -30,16 +30,14 @@ taken_by_others p b events = takes_in p (filter (λ e. not (e.by == b)) events)
 abbrev pub HasFewTries : View → Space → ℕ → ℕ → View → Type 0
 HasFewTries v p before now w = (grown : List Event) × (w.seen ≡ v.seen ++ grown) × (now ≤ before + taken_by_others p v.number grown + 1)
 
--- one try took an index
+-- an index was taken
 pub record TookIndex (v : View) (p : Space) (a : Act) (t : Ticket) (w : View) : Type 0 where
   pub called : Called v (event_of v a (reply.Index t.index) ∷ []) w
   pub ends : EndsWith (event_of v a (reply.Index t.index) ∷ []) w.seen
   pub owes : OwesIndex v p t w
-  pub more : takes_in p v.seen < takes_in p w.seen
 
--- or missed it: another number took one in between
-pub record MissedIndex (v : View) (p : Space) (word : ℕ) (w : View) : Type 0 where
+-- none was, and the freelist word has risen
+pub record MovedOn (v : View) (p : Space) (word : ℕ) (w : View) : Type 0 where
   pub called : Called v [] w
   pub leaves : LeavesOwn v w
   pub risen : HasRisen p word w
-  pub more : takes_in p v.seen < takes_in p w.seen

@@ -11,10 +11,11 @@ ghost use Rattle.entry_base.specs.Lists.{Has};
 ghost use Rattle.entry_base.specs.Openings.{sizes_in, start_of};
 ghost use Rattle.entry_base.specs.Ranks.{takes_in};
 ghost use Rattle.entry_base.specs.Sessions.{view, IsOf};
+ghost use Rattle.freelist_rule.specs.Freelists.{IsFreelistIn, IsSpent};
 ghost use Rattle.call_base.specs.Called.{Called, EndsWith, LeavesOwn};
 ghost use Rattle.space_steps.specs.declared.tickets.Taken.TheVariants as taken;
 ghost use Rattle.space_steps.specs.Segments.{HasRisen};
-ghost use Rattle.space_steps.specs.Takes.{HasFewTries, TookIndex, MissedIndex, taken_reply};
+ghost use Rattle.space_steps.specs.Takes.{HasFewTries, MovedOn, TookIndex, taken_reply};
 ghost use Rattle.space_steps.specs.Tickets.{TakenTo};
 
 use crate::segments::commit_at;
@@ -48,16 +49,39 @@ pub fn take<L: Ledger>(
 {
     let mut word = load_freelist_for_take(shared, s, space);
     loop {
-        if word / LENGTH == 0 {
-            if word >= shared.limit(space) as u64 {
-                return Taken::Full;
-            }
-            commit_at(shared, s, space, word as u32);
-        } else if let Some(ticket) = try_take(shared, s, space, word, steps) {
+        if word / LENGTH == 0 && word >= shared.limit(space) as u64 {
+            return Taken::Full;
+        }
+        if let Some(ticket) = advance(shared, s, space, word, steps) {
             return Taken::At(ticket);
         }
         word = load_freelist_for_take(shared, s, space);
     }
+}
+
+/// Tries to take the head of a freelist word that was loaded, or commits a segment where the list is empty. Where it takes no
+/// index, the freelist word has risen.
+fn advance<L: Ledger>(
+    shared: &Shared,
+    s: &mut Session,
+    space: Space,
+    word: u64,
+    steps: &mut Steps<L>,
+) -> Option<Ticket>
+    requires caller { IsOf shared.now s.old }
+    requires loaded { Has (view s.old).facts (fact.Freelist space word (takes_in space (view s.old).seen)) }
+    requires within { IsFreelistIn (view s.old) space word }
+    requires left { IsSpent (view s.old) space word → ⊥ }
+    ensures caller { IsOf shared.now s.new }
+    ensures took { IfSome result (λ t. TookIndex (view s.old) space (act.Take space) t (view s.new)) }
+    ensures moved { result ≡ None → MovedOn (view s.old) space word (view s.new) }
+    ensures bound { steps.new + takes_in space (view s.old).seen ≤ steps.old + takes_in space (view s.new).seen }
+{
+    if word / LENGTH != 0 {
+        return try_take(shared, s, space, word, steps);
+    }
+    commit_at(shared, s, space, word as u32);
+    None
 }
 
 /// Tries once to take the head of a freelist word that was loaded and is not empty.
@@ -75,11 +99,18 @@ fn try_take<L: Ledger>(
     ensures caller { IsOf shared.now s.new }
     ensures ticked { steps.new ≡ steps.old + 1 }
     ensures took { IfSome result (λ t. TookIndex (view s.old) space (act.Take space) t (view s.new)) }
-    ensures missed { result ≡ None → MissedIndex (view s.old) space word (view s.new) }
+    ensures moved { result ≡ None → MovedOn (view s.old) space word (view s.new) }
+    ensures more { takes_in space (view s.old).seen < takes_in space (view s.new).seen }
 {
     let next = (load_link(shared, s, space, word) % LENGTH) as u32;
-    let index = take_step(shared, s, space, word, next, steps).ok()?;
-    Some(Ticket { number: s.number(), space, index })
+    match take_step(shared, s, space, word, next, steps) {
+        Ok(index) => Some(Ticket {
+            number: s.number(),
+            space,
+            index,
+        }),
+        Err(_) => None,
+    }
 }
 
 /// Takes the least free external index below the start of the area. The answer is never `Full`, and `NoRoom` exactly where no index
@@ -130,9 +161,16 @@ fn try_below<L: Ledger>(
     ensures caller { IsOf shared.now s.new }
     ensures ticked { steps.new ≡ steps.old + 1 }
     ensures took { IfSome result (λ t. (t.index < start) × TookIndex (view s.old) External (act.Below start) t (view s.new)) }
-    ensures missed { result ≡ None → MissedIndex (view s.old) External word (view s.new) }
+    ensures moved { result ≡ None → MovedOn (view s.old) External word (view s.new) }
+    ensures more { takes_in External (view s.old).seen < takes_in External (view s.new).seen }
 {
     let next = (load_link(shared, s, Space::External, word) % LENGTH) as u32;
-    let index = below_step(shared, s, start, word, next, steps).ok()?;
-    Some(Ticket { number: s.number(), space: Space::External, index })
+    match below_step(shared, s, start, word, next, steps) {
+        Ok(index) => Some(Ticket {
+            number: s.number(),
+            space: Space::External,
+            index,
+        }),
+        Err(_) => None,
+    }
 }
