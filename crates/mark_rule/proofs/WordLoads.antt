@@ -45,7 +45,7 @@ place_is o (suc (suc zero)) few = omega arith
 place_is o (suc (suc (suc n))) few = absurd (omega (arith, few))
 
 -- no cell stands at index 0, and none beyond the limit
-out_empty : (s : Table) (p : Space) (w : ℕ) → IsSound s → is_out (limit_of s p) w ≡ true → s.cells p (index_of w) ≡ None
+pub out_empty : (s : Table) (p : Space) (w : ℕ) → IsSound s → is_out (limit_of s p) w ≡ true → s.cells p (index_of w) ≡ None
 out_empty s p w sound out = None-if_not_some (s.cells p (index_of w)) (λ stands. elim (or_cases (index_of w == 0) (nat_le (limit_of s p) (index_of w)) out) [
   | inl first ↦
       let ids = is_some-option_map (λ (cell : Cell). cell.id) (s.cells p (index_of w)) ∙ stands in
