@@ -3,7 +3,7 @@ ghost use Rattle.std.specs.Prelude.{◌≡◌, ◌<◌, ◌≤◌};
 ghost use Rattle.plain_table.specs.Words.{freelist_place, words_in_all};
 ghost use Rattle.plain_table.specs.Table.{limit_in};
 ghost use Rattle.plain_table.specs.declared.events.Space.TheVariants.{External, Trusted};
-ghost use Rattle.entry_base.specs.Openings.{opening_of, sizes_in};
+ghost use Rattle.entry_base.specs.Openings.{opening_of, sizes_in, IsOpenable};
 ghost use Rattle.entry_base.specs.Tied.{HasRoom};
 
 use crate::arrays::{array_of_pending, array_of_vars, copy_pending, copy_vars};
@@ -40,6 +40,8 @@ pub struct Shared {
     ghost made: { (seg ≡ (sizes_in (opening_of table.shared.key)).seg) × (objects ≡ (sizes_in (opening_of table.shared.key)).objects) },
     ghost limits: { (external ≡ limit_in (sizes_in (opening_of table.shared.key)) External)
         × (trusted ≡ limit_in (sizes_in (opening_of table.shared.key)) Trusted) },
+    // There is a table that the phase may have begun in.
+    ghost openable: { ∥ IsOpenable (opening_of table.shared.key) ∥₁ },
     ghost few: { (external ≤ 65536) × (trusted ≤ 65536) × (objects ≤ 16384) },
 }
 

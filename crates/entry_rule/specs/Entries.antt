@@ -1,20 +1,25 @@
 -- What the steps that fill an entry tell their seat (a put, an evacuation entry), the abort of a compaction, and the load of
 -- the area word.
-use Rattle.std.specs.Prelude.{◌≡◌, ◌⊎◌, ℕ, ◌/◌, ◌^◌, ◌<◌, ◌==◌, if◌then◌else◌, List, [], ◌∷◌, IfSome, true}
+use Rattle.std.specs.Prelude.{◌≡◌, ◌≢◌, ◌⊎◌, ℕ, ◌/◌, ◌^◌, ◌<◌, ◌==◌, if◌then◌else◌, List, [], ◌∷◌, IfSome, true, false}
 use Rattle.plain_table.specs.declared.events.Act.TheVariants as act
 use Rattle.plain_table.specs.declared.events.Cell.{Cell}
+use Rattle.plain_table.specs.declared.events.Event.{Event}
 use Rattle.plain_table.specs.declared.events.Space.{Space}
 use Rattle.plain_table.specs.declared.events.Space.TheVariants.{External, Trusted}
 use Rattle.plain_table.specs.declared.events.Field.TheVariants as field
 use Rattle.plain_table.specs.declared.reports.Reply.TheVariants as reply
+use Rattle.plain_table.specs.History.{after}
 use Rattle.plain_table.specs.Places.{same_space}
+use Rattle.plain_table.specs.Table.{Table}
 use Rattle.plain_table.specs.Words.{cell_word}
 use Rattle.entry_base.specs.declared.view.Fact.{Fact}
 use Rattle.entry_base.specs.declared.view.Fact.TheVariants as fact
+use Rattle.entry_base.specs.declared.view.Opening.{Opening}
 use Rattle.entry_base.specs.declared.view.View.{View}
 use Rattle.entry_base.specs.Callers.{SameCaller, SameOwn, Extends, event_of}
+use Rattle.entry_base.specs.Learned.{Loaded}
 use Rattle.entry_base.specs.Lists.{Has}
-use Rattle.entry_base.specs.Openings.{start_of}
+use Rattle.entry_base.specs.Openings.{IsBase, start_of}
 use Rattle.entry_base.specs.Owns.{claim_of, without_claim}
 
 -- an index that may be filled: a trusted one, any where there is no area, one below the area, or any after an abort
@@ -63,3 +68,11 @@ pub record Aborts (v w : View) : Type 0 where
 -- the area word says in bit 32 that the compaction is aborted
 abbrev pub area_facts : ℕ → List Fact
 area_facts found = if found / 2 ^ 32 == 1 then fact.Aborted ∷ [] else []
+
+-- at a moment the compaction is not aborted, whichever table the phase began in
+abbrev pub IsUnaborted : Opening → List Event → Type 0
+IsUnaborted key h = (b : Table) → IsBase key b → IfSome (after b h).cycle (λ c. c.aborted ≡ false)
+
+pub record AreaLoaded (v : View) (found : ℕ) (w : View) : Type 0 where
+  pub loaded : Loaded v (area_facts found) w
+  pub clear : found / 2 ^ 32 ≢ 1 → IsUnaborted v.opening w.seen

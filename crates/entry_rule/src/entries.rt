@@ -7,12 +7,11 @@ ghost use Rattle.plain_table.specs.Rows.{IsTag};
 ghost use Rattle.plain_table.specs.Table.{limit_in};
 ghost use Rattle.entry_base.specs.declared.view.Fact.TheVariants as fact;
 ghost use Rattle.entry_base.specs.declared.view.View.{View as Known};
-ghost use Rattle.entry_base.specs.Learned.{Loaded};
 ghost use Rattle.entry_base.specs.Lists.{Has, count_in};
 ghost use Rattle.entry_base.specs.Openings.{sizes_in, start_of};
 ghost use Rattle.entry_base.specs.Owns.{claim_of};
 ghost use Rattle.entry_base.specs.Sessions.{view, IsOf};
-ghost use Rattle.entry_rule.specs.Entries.{MayPut, Put, PutTrusted, Evacuated, Aborts, area_facts};
+ghost use Rattle.entry_rule.specs.Entries.{MayPut, Put, PutTrusted, Evacuated, Aborts, AreaLoaded};
 
 use entry_base::{Learning, Learns, Session, Shared};
 use plain_table::Space;
@@ -166,9 +165,9 @@ pub fn abort_step(shared: &Shared, s: &mut Session, start: u32)
 
 fn load_area_as<N: Learning>(shared: &Shared, s: &mut Session) -> u64
     requires caller { IsOf shared.now s.old }
-    requires picked { (found : ℕ) (v w : Known) → N.learns found v w ↔ Loaded v (area_facts found) w }
+    requires picked { (found : ℕ) (v w : Known) → N.learns found v w ↔ AreaLoaded v found w }
     ensures caller { IsOf shared.now s.new }
-    ensures learned { Loaded (view s.old) (area_facts result) (view s.new) }
+    ensures learned { AreaLoaded (view s.old) result (view s.new) }
 {
     shared.table.shared.load::<Learns<N>>(&mut s.seat, AREA)
 }
@@ -177,7 +176,7 @@ fn load_area_as<N: Learning>(shared: &Shared, s: &mut Session) -> u64
 pub fn load_area(shared: &Shared, s: &mut Session) -> u64
     requires caller { IsOf shared.now s.old }
     ensures caller { IsOf shared.now s.new }
-    ensures learned { Loaded (view s.old) (area_facts result) (view s.new) }
+    ensures learned { AreaLoaded (view s.old) result (view s.new) }
 {
     load_area_as::<Brand>(shared, s)
 }

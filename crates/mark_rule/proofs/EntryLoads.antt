@@ -1,6 +1,6 @@
 -- The loads of an entry that a touched word names: its tag bits tell whether a cell stands there. Where none does, there is
 -- nothing to mark or to move; where a marked one does, the load for a mark is the event of the mark.
-use Rattle.std.proofs.Common.{◌≡◌, ◌⊎◌, ℕ, ◌+◌, ◌*◌, ◌%◌, ◌^◌, ◌<◌, ◌==◌, if◌then◌else◌, Bool, true, false, List, [], ◌∷◌, get_or, set, slice_index, Some, IsTrue, true≢false, refl, sym, ap, subst, ◌∙◌, inl, inr, arith}
+use Rattle.std.proofs.Common.{◌≡◌, ◌⊎◌, ℕ, ◌+◌, ◌*◌, ◌%◌, ◌^◌, ◌<◌, ◌==◌, if◌then◌else◌, Bool, true, false, List, [], ◌∷◌, get_or, set, slice_index, Some, IsTrue, IfSome, true≢false, refl, sym, ap, subst, ◌∙◌, inl, inr, arith}
 use Rattle.std.proofs.lemmas.Bool.{cases_Bool}
 use Rattle.std.proofs.lemmas.Bool.Decides.{eqb_tells, nat_tests}
 use mathlib.Core.Option.{some}
@@ -101,10 +101,10 @@ module _ (key : Opening) (v : View) (f : Field) (w : ℕ) (caller : IsCaller key
                 inl (c.shown_too ∙ sym (low_word found c.cell (c.word.whole ∙ ap (cell_word c.cell) clear) good.0.1 good.1))
           ]
 
-      mark_of : IsMarkedWord found → IsMarkOf s (space_of f) (index_of w) found
+      mark_of : IsMarkedWord found → IsMarkOf s (space_of f) (index_of w) true found
       mark_of is =
           let c = stands_some key words views k v s g (space_of f) (index_of w) below is.0 in
-          record { cell = c.cell; stands = c.stands; word = c.word.whole ∙ ap (cell_word c.cell) is.1 }
+          record { cell = c.cell; stands = c.stands; word = c.word.whole ∙ ap (cell_word c.cell) is.1; was = subst (λ x. IfSome s.cycle (λ d. x ≡ d.marks (space_of f) (index_of w))) is.1 c.word.mark }
 
     looked : (u : View) × Kept key (set words place found) (set views id u) × EntryLoaded v f w found u
     looked =
@@ -117,6 +117,10 @@ module _ (key : Opening) (v : View) (f : Field) (w : ℕ) (caller : IsCaller key
             none = λ zero_tag b base.
                 let g = given key words views id v k at b (subst (λ (o : Opening). IsBase o b) caller.opened base) in
                 stands_none key words views k v (after b k.log) g (space_of f) (index_of w) below zero_tag;
+            some = λ tagged b base.
+                let g = given key words views id v k at b (subst (λ (o : Opening). IsBase o b) caller.opened base) in
+                let c = stands_some key words views k v (after b k.log) g (space_of f) (index_of w) below tagged in
+                IsSome-some ((after b k.log).cells (space_of f) (index_of w)) c.cell c.stands;
           },
         )
 
@@ -124,8 +128,8 @@ module _ (key : Opening) (v : View) (f : Field) (w : ℕ) (caller : IsCaller key
     marked_or_looked = elim (marked_or_not found) [
       | inl is ↦
           let marks = λ (s : Table) (g : Given key k.log k.shown words v s). mark_of s g is in
-          let done = kept_mark key words views id v k at f w found (space_of f) refl caller below touched marks in
-          (marker key words views id v k at f w found (space_of f) refl caller below touched marks, done.0, record { marked = λ _. done.1; unmarked = λ not_marked. absurd (not_marked is) })
+          let done = kept_mark key words views id v k at f w true found (space_of f) refl caller below touched marks in
+          (marker key words views id v k at f w true found (space_of f) refl caller below touched marks, done.0, record { marked = λ _. done.1; unmarked = λ not_marked. absurd (not_marked is) })
       | inr is_not ↦ (looked.0, looked.1, record { marked = λ is. absurd (is_not is); unmarked = λ _. looked.2 })
     ]
 

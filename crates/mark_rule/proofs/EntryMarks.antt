@@ -66,13 +66,13 @@ module _ (key : Opening) (words : List ℕ) (views : List View) (id : ℕ) (v : 
     written_word true same = cell_word-marked c.cell (has_mark found) word clear (sym c.word.whole ∙ (let t : found ≡ word = grind (arith, nat_tests) in t))
     written_word false other = c.word.whole ∙ ap (cell_word c.cell) (marked_there (grind (arith, nat_tests)))
 
-    mark_of : IsMarkOf s p (index_of w) written
-    mark_of = record { cell = c.cell; stands = c.stands; word = written_word (found == word) refl }
+    mark_of : IsMarkOf s p (index_of w) (has_mark found) written
+    mark_of = record { cell = c.cell; stands = c.stands; word = written_word (found == word) refl; was = c.word.mark }
 
   exchanged : (u : View) × Kept key (set words place written) (set views id u) × MarkExchanged v p (index_of w) word found u
   exchanged =
-      let done = kept_mark key words views id v k at f w written p spaced caller below touched mark_of in
-      (marker key words views id v k at f w written p spaced caller below touched mark_of, done.0, record { marked = done.1; found_marked = marked_there (after k.base k.log) (given key words views id v k at k.base k.is_base) })
+      let done = kept_mark key words views id v k at f w (has_mark found) written p spaced caller below touched mark_of in
+      (marker key words views id v k at f w (has_mark found) written p spaced caller below touched mark_of, done.0, record { marked = done.1; found_marked = marked_there (after k.base k.log) (given key words views id v k at k.base k.is_base) })
 
 pub marks : (key : Opening) (slots id : ℕ) (me : Me (Unit {0}) View) (f : Field) (word entry : ℕ) (p : Space) → space_of f ≡ p → IsCaller key me.0 → index_of word < limit_in (sizes_in me.0.opening) p → Has me.0.facts (fact.Touched f word) → Has me.0.facts (fact.Entry p (index_of word) entry) → entry < 2 ^ 62 → Keeps key slots id me (entry_place (sizes_in key) p (index_of word)) (λ n. either (n == entry) (entry + 2 ^ 62) n) (λ found w. MarkExchanged me.0 p (index_of word) entry found w)
 marks key slots id me f word entry p spaced caller below touched loaded clear =

@@ -1,6 +1,6 @@
 -- A step that marks the cell at the index of a touched word: the entry's word becomes that of the marked cell, or is so
 -- already.
-use Rattle.std.proofs.Common.{◌≡◌, ◌≢◌, ℕ, ◌<◌, true, List, [], ◌∷◌, ◌++◌, set, Option, Some, IsTrue, IsSome, IsSomeAnd, refl, sym, ap, subst, inl, inr, arith}
+use Rattle.std.proofs.Common.{◌≡◌, ◌≢◌, ℕ, ◌<◌, Bool, true, List, [], ◌∷◌, ◌++◌, set, Option, Some, IsTrue, IsSome, IsSomeAnd, IfSome, refl, sym, ap, subst, inl, inr, arith}
 use mathlib.Core.Option.{some}
 use lib.ListN.{get_elem?}
 use Rattle.plain_table.specs.declared.events.Act.TheVariants as act
@@ -13,10 +13,11 @@ use Rattle.plain_table.specs.Cycle.{Cycle, IsTouched, marked_in}
 use Rattle.plain_table.specs.History.{IsLegal, after, next}
 use Rattle.plain_table.specs.Index.{index_of}
 use Rattle.plain_table.specs.Places.{space_of}
+use Rattle.plain_table.specs.Rows.{InCycle}
 use Rattle.plain_table.specs.Shows.{Shows}
 use Rattle.plain_table.specs.Table.{Table, Sizes, limit_in}
 use Rattle.plain_table.specs.Words.{cell_word, entry_place, no_access_word}
-use Rattle.plain_table.proofs.Options.{IsSomeAnd-by, IsSomeAnd-is, IsSomeAnd-some, IsSome-some, IsSome-value}
+use Rattle.plain_table.proofs.Options.{IfSome-is, IsSomeAnd-by, IsSomeAnd-is, IsSomeAnd-some, IsSome-some, IsSome-value}
 use Rattle.plain_table.proofs.SpacesShown.{cell-used}
 use Rattle.table_laws.proofs.CellsStay.{marked_in-here}
 use Rattle.table_laws.proofs.Steadiness.{events-steady}
@@ -27,7 +28,7 @@ use Rattle.entry_base.specs.declared.view.Opening.{Opening}
 use Rattle.entry_base.specs.declared.view.View.{View}
 use Rattle.entry_base.specs.Callers.{IsCaller, event_of}
 use Rattle.entry_base.specs.Lists.{Has}
-use Rattle.entry_base.specs.Openings.{sizes_in}
+use Rattle.entry_base.specs.Openings.{IsBase, sizes_in}
 use Rattle.entry_base.specs.Owns.{Owns}
 use Rattle.entry_base.specs.Rule.{Kept}
 use Rattle.entry_base.proofs.Changes.{EntryChanges, kept_entry}
@@ -36,15 +37,16 @@ use Rattle.entry_base.proofs.Steps.{Given, given}
 use Rattle.entry_base.proofs.Sums.{each_has}
 use Rattle.mark_rule.specs.Marking.{Marked}
 
--- the word of the marked cell that stands at the index
-pub record IsMarkOf (s : Table) (p : Space) (i n : ℕ) : Type 0 where
+-- the word of the marked cell that stands at the index, which had a mark or not
+pub record IsMarkOf (s : Table) (p : Space) (i : ℕ) (had : Bool) (n : ℕ) : Type 0 where
   pub cell : Cell
   pub stands : s.cells p i ≡ Some cell
   pub word : n ≡ cell_word cell true
+  pub was : IfSome s.cycle (λ c. had ≡ c.marks p i)
 
 module _ (key : Opening) (words : List ℕ) (views : List View) (id : ℕ) (v : View) (k : Kept key words views) (at : get_elem? views id ≡ some v)
-    (f : Field) (w n : ℕ) (p : Space) (spaced : space_of f ≡ p) (caller : IsCaller key v) (below : index_of w < limit_in (sizes_in key) p) (touched : Has v.facts (fact.Touched f w))
-    (marks : (s : Table) → Given key k.log k.shown words v s → IsMarkOf s p (index_of w) n) where
+    (f : Field) (w : ℕ) (had : Bool) (n : ℕ) (p : Space) (spaced : space_of f ≡ p) (caller : IsCaller key v) (below : index_of w < limit_in (sizes_in key) p) (touched : Has v.facts (fact.Touched f w))
+    (marks : (s : Table) → Given key k.log k.shown words v s → IsMarkOf s p (index_of w) had n) where
   abbrev z : Sizes
   z = sizes_in key
 
@@ -72,7 +74,7 @@ module _ (key : Opening) (words : List ℕ) (views : List View) (id : ℕ) (v : 
     tells = ((IsSomeAnd-by (next s e).cycle d.0 _ d.1 marked, tt), ((IsSomeAnd-by (next s e).cycle d.0 _ d.1 (λ stood. marked), tt), tt));
   }
     where
-      m : IsMarkOf s p i n
+      m : IsMarkOf s p i had n
       m = marks s g
 
       filled : IsSome (s.cells p i)
@@ -96,13 +98,20 @@ module _ (key : Opening) (words : List ℕ) (views : List View) (id : ℕ) (v : 
       owns : Owns (next s e) v
       owns = owns_same s e (next s e) v (events-steady s e g.sound legal tt).cells (record { vars = refl; ticket = refl; owed = refl; fresh = refl }) g.owns
 
+  had_mark : (s : Table) → Given key k.log k.shown words v s → InCycle s (λ c. c.marks p i ≡ had)
+  had_mark s g =
+      let m = marks s g in
+      let knows = (each_has _ v.facts (fact.Touched f w) g.known touched).0 in
+      let cycle = IsSome-value s.cycle (IsSomeAnd-some s.cycle _ knows) in
+      IsSomeAnd-by s.cycle cycle.0 _ cycle.1 (sym (IfSome-is s.cycle _ cycle.0 cycle.1 m.was))
+
   usable : n ≢ no_access_word
   usable closed =
       let m = marks (after k.base k.log) (given key words views id v k at k.base k.is_base) in
       let word = m.word in
       omega (arith, word, closed)
 
-  pub kept_mark : Kept key (set words (entry_place z p i) n) (set views id marker) × Marked v p i marker
+  pub kept_mark : Kept key (set words (entry_place z p i) n) (set views id marker) × Marked v p i had marker
   kept_mark =
       let done = kept_entry key words views id v marker k at more e refl caller.own tt (λ q. refl) refl refl refl refl p i n below usable (λ o m var link. absurd (cc)) changes in (
         done.0,
@@ -111,6 +120,11 @@ module _ (key : Opening) (words : List ℕ) (views : List View) (id : ℕ) (v : 
           own = record { vars = refl; pending = refl; owed = refl; fresh = refl };
           hands = refl;
           extends = done.1 caller.opened;
+          before = k.log;
+          last = refl;
+          was = λ b base.
+              let g = given key words views id v k at b (subst (λ (o : Opening). IsBase o b) caller.opened base) in
+              had_mark (after b k.log) g;
           knows = (inl refl, inr (inl refl));
         },
       )

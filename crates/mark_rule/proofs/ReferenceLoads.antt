@@ -14,7 +14,7 @@ use Rattle.entry_base.specs.declared.view.View.{View}
 use Rattle.entry_base.specs.Callers.{IsCaller}
 use Rattle.entry_base.specs.Facts.{IsKnown}
 use Rattle.entry_base.specs.Lists.{Each}
-use Rattle.entry_base.specs.Openings.{sizes_in}
+use Rattle.entry_base.specs.Openings.{IsBase, sizes_in}
 use Rattle.entry_base.specs.Rule.{Kept}
 use Rattle.entry_base.proofs.Steps.{Given, Keeps, given, held_within, keeps_by}
 use Rattle.mark_rule.specs.Marking.{InHands, ReferenceLoaded, reference_facts}
@@ -75,5 +75,11 @@ loads_reference key slots id me o n caller has few =
     let low = within key v o n caller has few words views id k at (after k.base k.log) (given key words views id v k at k.base k.is_base) in (
       learner key words views id v k at more,
       done.0,
-      record { loaded = done.1; low = subst (λ (x : Opening). get_or words (reference_place o n) 0 ≤ (sizes_in x).objects) (sym caller.opened) low },
+      record {
+        loaded = done.1;
+        low = subst (λ (x : Opening). get_or words (reference_place o n) 0 ≤ (sizes_in x).objects) (sym caller.opened) low;
+        holds = λ b base.
+            let g = given key words views id v k at b (subst (λ (x : Opening). IsBase x b) caller.opened base) in
+            sym (word_is key v o n caller has few words views id k at (after b k.log) g);
+      },
     ))

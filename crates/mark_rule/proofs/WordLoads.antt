@@ -24,7 +24,7 @@ use Rattle.entry_base.specs.declared.view.View.{View}
 use Rattle.entry_base.specs.Callers.{IsCaller}
 use Rattle.entry_base.specs.Facts.{IsKnown}
 use Rattle.entry_base.specs.Lists.{Each}
-use Rattle.entry_base.specs.Openings.{sizes_in}
+use Rattle.entry_base.specs.Openings.{IsBase, sizes_in}
 use Rattle.entry_base.specs.Passed.{field_of}
 use Rattle.entry_base.specs.Rule.{Kept}
 use Rattle.entry_base.proofs.Steps.{Given, Keeps, given, keeps_by}
@@ -45,7 +45,7 @@ place_is o (suc (suc zero)) few = omega arith
 place_is o (suc (suc (suc n))) few = absurd (omega (arith, few))
 
 -- no cell stands at index 0, and none beyond the limit
-out_empty : (s : Table) (p : Space) (w : ℕ) → IsSound s → is_out (limit_of s p) w ≡ true → s.cells p (index_of w) ≡ None
+pub out_empty : (s : Table) (p : Space) (w : ℕ) → IsSound s → is_out (limit_of s p) w ≡ true → s.cells p (index_of w) ≡ None
 out_empty s p w sound out = None-if_not_some (s.cells p (index_of w)) (λ stands. elim (or_cases (index_of w == 0) (nat_le (limit_of s p) (index_of w)) out) [
   | inl first ↦
       let ids = is_some-option_map (λ (cell : Cell). cell.id) (s.cells p (index_of w)) ∙ stands in
@@ -119,5 +119,8 @@ loads_word key slots id me o n caller has few =
       record {
         loaded = done.1;
         small = small key v o n caller has few words views id k at (after k.base k.log) (given key words views id v k at k.base k.is_base);
+        stands = λ b base.
+            let g = given key words views id v k at b (subst (λ (x : Opening). IsBase x b) caller.opened base) in
+            sym (word_is key v o n caller has few words views id k at (after b k.log) g);
       },
     ))

@@ -1,7 +1,7 @@
 use Rattle.std.proofs.Common.{◌∙◌, ◌≤◌, List, ℕ, sym, subst}
 use Rattle.entry_base.specs.Lists.{count_in}
 use Rattle.entry_base.proofs.OneByOne.{same_trans}
-use Rattle.worked_steps.proofs.PassedParts.{IsPassed-parts, PassedField-stays, PassedReference-stays}
+use Rattle.call_base.proofs.PassedParts.{IsPassed-parts, PassedField-stays, PassedReference-stays}
 use Rattle.worked_steps.proofs.marking.scan_empty.Goals as goal
 
 pub scan_step-requires-clause-passed : goal.scan_step-requires-clause-passed

@@ -1,12 +1,12 @@
 use Rattle.std.proofs.Common.{◌≡◌, ◌*◌, ◌==◌, ◌∙◌, if◌then◌else◌, slice_index, [], ◌∷◌, ℕ, List, Option, replicate, true, length, sym, ap, subst, subst₂, arith}
 use Rattle.std.proofs.lemmas.List.{length-map}
-use Rattle.std.proofs.lemmas.Grind.{get_or_default_zero}
+use Rattle.std.proofs.lemmas.Grind.{get_or_default_zero, merely}
 use Rattle.plain_table.specs.declared.events.Space.TheVariants.{External, Trusted}
 use Rattle.plain_table.specs.Words.{words_in_all}
 use Rattle.entry_word.specs.declared.image.Pending.{Pending}
 use Rattle.entry_base.specs.Callers.{IsCaller}
 use Rattle.entry_base.specs.Lists.{count_in}
-use Rattle.entry_base.specs.Openings.{opening_of, pending_cell, sizes_in, IsBase}
+use Rattle.entry_base.specs.Openings.{opening_of, pending_cell, sizes_in, IsBase, IsOpenable}
 use Rattle.entry_base.specs.Rule.{Kept}
 use Rattle.entry_base.specs.Tied.{IsTied}
 use Rattle.entry_base.specs.Views.{first_view}
@@ -42,6 +42,11 @@ invariant_of-shared c =
       };
       made = (ap (λ k. k.shape.seg) (sym e.5), ap (λ k. k.shape.objects) (sym e.5));
       limits = (ap (λ k. k.shape.seg * k.shape.ext) (sym e.5), ap (λ k. k.shape.seg * k.shape.tru) (sym e.5));
+      openable = merely (subst (λ k. IsOpenable (opening_of k)) (sym e.5) (record {
+        base = r.lawful.0;
+        is_base = record { sound = r.lawful.1; shows = r.lawful.2; covered = r.lawful.3 };
+        small = r.small;
+      }));
       few = (r.small.few External, r.small.few Trusted, r.small.objects);
     }
 
