@@ -1,5 +1,5 @@
 -- The calls by external fields.
-use Rattle.std.proofs.Common.{◌≡◌, ◌⊎◌, ℕ, ◌+◌, ◌*◌, ◌<◌, List, [], ◌∷◌, ◌++◌, Option, Some, None, refl, sym, ap, subst, ◌∙◌, inl, inr}
+use Rattle.std.proofs.Common.{◌≡◌, ℕ, ◌+◌, ◌*◌, ◌<◌, List, [], ◌∷◌, Option, Some, None, refl, ap, subst, ◌∙◌, inl, inr}
 use Rattle.std.specs.Option.{option_map}
 use Rattle.plain_table.specs.declared.events.Act.{Act}
 use Rattle.plain_table.specs.declared.events.Act.TheVariants as act
@@ -45,6 +45,9 @@ WithObject-field held v var f number said events Shape is found shape = by_held 
 module _ (v : View) (var f : ℕ) (few : var < 16) (none : field_number v var f ≡ None) where
   still : (Shape : ℕ → Type 0) (cycle : Option Cycle) (held : Held) (own : OwnTicket) → Suits v cycle held own → WithObject held var reply.Empty [] Shape
   still Shape cycle held own suits = WithObject-none held var Shape (held_suits v var few cycle held own suits ∙ held_in-none v var f none)
+
+  pub Made-init_empty : (tag value : ℕ) → Made v (op.Init var f tag value) reply.Empty v
+  Made-init_empty tag value = made_still v _ _ (λ cycle held own suits. still _ cycle held own suits)
 
   pub Made-name_empty : Made v (op.Name var f) reply.Empty v
   Made-name_empty = made_still v _ _ (still _)
@@ -110,14 +113,20 @@ module _ (u w : View) (var f number : ℕ) (few : var < 16) (found : field_numbe
 
     pub Made-store : (value : ℕ) → Writes v word first last (act.Set word first last value) said w → Made u (op.Store var f first last value) said w
     Made-store value writes = Made-writes (act.Set word first last value) writes (λ held. refl, λ ticket. refl) _
-        (by_number said _ (λ n. IsStore u.number (field.External n) first last value said (name_event ∷ writes.own)) (word, elim (shape_here (act.Set word first last value) writes (λ held. refl, λ ticket. refl)) [
-          | inl missed ↦ inl (missed.0, ap (λ l. name_event ∷ l) missed.1)
-          | inr stored ↦ inr (stored.0, ap (λ l. name_event ∷ l) stored.1)
-        ]))
+        (by_number said _ (λ n. IsStore u.number (field.External n) first last value said (name_event ∷ writes.own)) (
+          word,
+          elim (shape_here (act.Set word first last value) writes (λ held. refl, λ ticket. refl)) [
+            | inl missed ↦ inl (missed.0, ap (λ l. name_event ∷ l) missed.1)
+            | inr stored ↦ inr (stored.0, ap (λ l. name_event ∷ l) stored.1)
+          ],
+        ))
 
     pub Made-swap : (value : ℕ) → Writes v word first last (act.Swap word first last value) said w → Made u (op.Swap var f first last value) said w
     Made-swap value writes = Made-writes (act.Swap word first last value) writes (λ held. refl, λ ticket. refl) _
-        (by_number said _ (λ n. IsSwap u.number (field.External n) first last value said (name_event ∷ writes.own)) (word, elim (shape_here (act.Swap word first last value) writes (λ held. refl, λ ticket. refl)) [
-          | inl missed ↦ inl (missed.0, ap (λ l. name_event ∷ l) missed.1)
-          | inr swapped ↦ inr (swapped.0, ap (λ l. name_event ∷ l) swapped.1)
-        ]))
+        (by_number said _ (λ n. IsSwap u.number (field.External n) first last value said (name_event ∷ writes.own)) (
+          word,
+          elim (shape_here (act.Swap word first last value) writes (λ held. refl, λ ticket. refl)) [
+            | inl missed ↦ inl (missed.0, ap (λ l. name_event ∷ l) missed.1)
+            | inr swapped ↦ inr (swapped.0, ap (λ l. name_event ∷ l) swapped.1)
+          ],
+        ))

@@ -1,3 +1,4 @@
 pub mod LookReads
 pub mod Writes
 pub mod FieldAccesses
+pub mod NewBindings
