@@ -153,7 +153,8 @@ held_after-fills b o tag value said events shape held = elim shape [
 
 -- tnew
 pub Made-tnew_empty : (u : View) (var tag value : ℕ) → var < 16 → held_in u var ≡ None → Made u (op.TNew var tag value) reply.Empty u
-Made-tnew_empty u var tag value few none = made_still u (op.TNew var tag value) reply.Empty (with_none u var few none _)
+Made-tnew_empty u var tag value few none = made_still u (op.TNew var tag value) reply.Empty (λ cycle held own suits.
+    with_none u var few none (λ o. IsTNew u.number own.ticket (field.Trusted o) tag value reply.Empty []) cycle held own suits)
 
 pub Made-tnew_pending : (u : View) (var o tag value i : ℕ) → var < 16 → held_in u var ≡ Some o → ticket_in u ≡ Some i → Made u (op.TNew var tag value) reply.Pending u
 Made-tnew_pending u var o tag value i few found has = made_still u (op.TNew var tag value) reply.Pending (λ cycle held ticket suits.

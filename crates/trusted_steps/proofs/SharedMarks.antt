@@ -1,5 +1,5 @@
 -- The mark of a trusted cell that is to be shared, and the events of a share.
-use Rattle.std.proofs.Common.{◌≡◌, ◌≢◌, ◌⊎◌, ℕ, zero, suc, ◌%◌, ◌^◌, ◌<◌, ◌==◌, if◌then◌else◌, Bool, true, false, List, [], ◌∷◌, ◌++◌, Option, Some, None, IsSome, IsTrue, refl, sym, ap, subst, ◌∙◌, inl, inr, arith}
+use Rattle.std.proofs.Common.{◌≡◌, ◌≢◌, ◌⊎◌, ℕ, zero, suc, ◌/◌, ◌%◌, ◌^◌, ◌<◌, ◌==◌, if◌then◌else◌, Bool, true, false, List, [], ◌∷◌, ◌++◌, Option, Some, None, option_map, IsSome, IsTrue, refl, sym, ap, subst, ◌∙◌, inl, inr, arith}
 use Rattle.std.proofs.lemmas.Bool.Decides.{nat_tests}
 use Rattle.plain_table.specs.declared.events.Act.TheVariants as act
 use Rattle.plain_table.specs.declared.events.Cell.{Cell}
@@ -13,7 +13,7 @@ use Rattle.plain_table.specs.Cycle.{Cycle}
 use Rattle.plain_table.specs.Finish.{id_at}
 use Rattle.plain_table.specs.History.{after}
 use Rattle.plain_table.specs.Index.{index_of}
-use Rattle.plain_table.specs.Shapes.{Held, OwnTicket, IsShare, WithObject, event, held_after, mark_before, own_after}
+use Rattle.plain_table.specs.Shapes.{Held, OwnTicket, IsShare, WithObject, event, held_after, mark_before, own_after, with_ticket}
 use Rattle.plain_table.specs.Table.{Table, limit_in}
 use Rattle.plain_table.specs.Words.{phase_word}
 use Rattle.plain_table.proofs.Options.{IsSome-none}
@@ -28,17 +28,16 @@ use Rattle.entry_base.specs.Histories.{AreTrueAfter}
 use Rattle.entry_base.specs.Lists.{Has}
 use Rattle.entry_base.specs.Numbers.{HasNumber}
 use Rattle.entry_base.specs.Openings.{IsOpenable, phase_of, sizes_in}
-use Rattle.entry_base.specs.Sessions.{held_in}
+use Rattle.entry_base.specs.Sessions.{held_in, ticket_in}
 use Rattle.entry_base.proofs.Sums.{each_has}
-use Rattle.mark_rule.specs.Marking.{EntryLoaded, MarkLoaded, Marked, entry_facts}
-use Rattle.object_rule.specs.Fields.{BoundShared, NamedTrusted, bind_reply, named_facts}
+use Rattle.mark_rule.specs.Marking.{EntryLoaded, MarkLoaded, Marked}
+use Rattle.object_rule.specs.Fields.{BoundShared, NamedTrusted, bind_reply}
 use Rattle.call_base.specs.Called.{Called, EndsWith, LeavesOwn, Made, Suits}
-use Rattle.call_base.proofs.CallsInOrder.{EndsWith-last, called_looks, called_then, called_trans, suits_stay}
-use Rattle.call_base.proofs.OneEvent.{called_once, ends_once, made_stays, made_still}
-use Rattle.call_base.proofs.HeldVariables.{WithObject-none, WithObject-some, held_suits}
+use Rattle.call_base.proofs.CallsInOrder.{EndsWith-last, called_looks, called_then, pends_stay}
+use Rattle.call_base.proofs.OneEvent.{called_once, ends_once, made_still}
 use Rattle.space_steps.proofs.TakeTurns.{own_number}
 use Rattle.trusted_steps.specs.Shares.{IsShareIn, SharesEntry, mark_for}
-use Rattle.trusted_steps.proofs.TrustedCalls.{with_none, with_some}
+use Rattle.trusted_steps.proofs.TrustedCalls.{made_tickets, with_none, with_some}
 
 -- a trusted cell is known to stand at an index
 module _ (key : Opening) (h : List Event) (facts : List Fact) (i : ℕ) (openable : IsOpenable key) (sure : AreTrueAfter key h facts) (settled : Has facts (fact.Settled i)) where
@@ -50,7 +49,7 @@ module _ (key : Opening) (h : List Event) (facts : List Fact) (i : ℕ) (openabl
 
   id_there : (found : Option Cell) → there.cells Trusted i ≡ found → IsSome (id_at there Trusted i)
   id_there None is = absurd (IsSome-none (there.cells Trusted i) is cell_there)
-  id_there (Some c) is = subst (λ x. IsSome (Rattle.std.proofs.Common.option_map (λ (cell : Cell). cell.id) x)) (sym is) tt
+  id_there (Some c) is = subst (λ x. IsSome (option_map (λ (cell : Cell). cell.id) x)) (sym is) refl
 
   -- the index is below the limit
   pub settled_inside : i < limit_in (sizes_in key) Trusted
@@ -71,7 +70,7 @@ module _ (v w : View) (o word found : ℕ) (openable : IsOpenable v.opening) (se
   is_marked set = loaded.marked (tag_there, go (has_mark found) refl)
     where
       go : (b : Bool) → has_mark found ≡ b → IsTrue b
-      go true is = tt
+      go true is = refl
       go false is = absurd (set (grind (arith, nat_tests)))
 
   pub not_marked : found / 2 ^ 62 % 2 ≡ 0 → EntryLoaded v (field.Trusted o) word found w
@@ -79,7 +78,7 @@ module _ (v w : View) (o word found : ℕ) (openable : IsOpenable v.opening) (se
     where
       go : (b : Bool) → has_mark found ≡ b → IsTrue b → ⊥
       go true is t = let one : found / 2 ^ 62 % 2 ≡ 1 = grind (arith, nat_tests) in omega (arith, one, clear)
-      go false is t = t
+      go false is t = absurd (cc)
 
   pub entry_there : found / 2 ^ 62 % 2 ≡ 0 → Has w.facts (fact.Entry Trusted (index_of word) (found % 2 ^ 62))
   entry_there clear =
@@ -149,17 +148,38 @@ SharesEntry-bound u v w x o q word found said some own own_there n marked bound 
 
 -- share
 pub Made-share_from : (u : View) (from to : ℕ) → from < 16 → held_in u from ≡ None → Made u (op.Share from to) reply.Empty u
-Made-share_from u from to few none = made_still u (op.Share from to) reply.Empty (with_none u from few none _)
+Made-share_from u from to few none = made_still u (op.Share from to) reply.Empty (λ cycle held own suits.
+    with_none u from few none (λ a. WithObject held to reply.Empty [] (λ b. IsShare u.number cycle (field.Trusted a) (field.Trusted b) reply.Empty [])) cycle held own suits)
 
 pub Made-share_to : (u : View) (from to o : ℕ) → from < 16 → to < 16 → held_in u from ≡ Some o → held_in u to ≡ None → Made u (op.Share from to) reply.Empty u
 Made-share_to u from to o few few_to found none = made_still u (op.Share from to) reply.Empty (λ cycle held ticket suits.
     with_some u from o few found reply.Empty [] (λ a. WithObject held to reply.Empty [] (λ b. IsShare u.number cycle (field.Trusted a) (field.Trusted b) reply.Empty []))
     (with_none u to few_to none (λ b. IsShare u.number cycle (field.Trusted o) (field.Trusted b) reply.Empty []) cycle held ticket suits) cycle held ticket suits)
 
-still_share : (b phase o q : ℕ) (said : Reply) (events : List Event) → IsShareIn b phase o q said events
-    → ((held : Held) → held_after held events ≡ held) × ((ticket : OwnTicket) → ticket.filled ≡ None → own_after ticket events ≡ ticket)
-still_share b phase o q said events shape = ?
+abbrev StaysBy : List Event → Type 0
+StaysBy events = ((held : Held) → held_after held events ≡ held) × ((t : Option ℕ) → own_after (with_ticket t) events ≡ with_ticket t)
+
+stays_marked : (b o q w : ℕ) (said : Reply) (idle : Bool)
+    → StaysBy (event b (act.Name (field.Trusted o)) (reply.Word w) ∷ (if idle then [] else event b (act.Mark Trusted (index_of w)) reply.Ok ∷ []) ++ event b (act.Bind (field.Trusted q) w) said ∷ [])
+stays_marked b o q w said true = (λ held. refl, λ t. refl)
+stays_marked b o q w said false = (λ held. refl, λ t. refl)
+
+share_stays : (b phase o q : ℕ) (said : Reply) (events : List Event) → IsShareIn b phase o q said events → StaysBy events
+share_stays b phase o q said events shape = elim shape.1 [
+  | inl null ↦ subst StaysBy (sym null.2) (λ held. refl, λ t. refl)
+  | inr bound ↦ subst StaysBy (sym bound.1) (stays_marked b o q shape.0 said (phase == 0))
+]
 
 pub Made-share : (u w : View) (from to o q : ℕ) (said : Reply) → from < 16 → to < 16 → held_in u from ≡ Some o → held_in u to ≡ Some q → SharesEntry u o q said w → LeavesOwn u w
     → Made u (op.Share from to) said w
-Made-share u w from to o q said few few_to found found_to shares leaves = ?
+Made-share u w from to o q said few few_to found found_to shares leaves =
+    let stays = share_stays u.number (phase_of u.opening) o q said shares.own shares.shape in
+    made_tickets u w (op.Share from to) said shares.own shares.called shares.ends
+    (λ cycle held ticket suits. with_some u from o few found said shares.own (λ a. WithObject held to said shares.own (λ b. IsShare u.number cycle (field.Trusted a) (field.Trusted b) said shares.own))
+    (with_some u to q few_to found_to said shares.own (λ b. IsShare u.number cycle (field.Trusted o) (field.Trusted b) said shares.own)
+    (shares.shape.0, elim shares.shape.1 [
+      | inl null ↦ inl null
+      | inr bound ↦ inr (bound.0, bound.1 ∙ ap (λ l. event u.number (act.Name (field.Trusted o)) (reply.Word shares.shape.0) ∷ l ++ event u.number (act.Bind (field.Trusted q) shares.shape.0) said ∷ [])
+          (mark_for-before u.number shares.shape.0 (phase_of u.opening) cycle suits.phase))
+    ]) cycle held ticket suits) cycle held ticket suits)
+    leaves.own.vars stays.0 (stays.1 (ticket_in u) ∙ ap with_ticket (pends_stay u w shares.called.same leaves.own.pending))

@@ -93,7 +93,8 @@ has_ticket v cell is = read v.pending v.number is
 
 -- publishing
 pub Made-publish_empty : (u : View) (var : ℕ) → var < 16 → held_in u var ≡ None → Made u (op.TPub var) reply.Empty u
-Made-publish_empty u var few none = made_still u (op.TPub var) reply.Empty (with_none u var few none _)
+Made-publish_empty u var few none = made_still u (op.TPub var) reply.Empty (λ cycle held own suits.
+    with_none u var few none (λ o. IsTPub u.number own.ticket (field.Trusted o) reply.Empty []) cycle held own suits)
 
 module _ (u v : View) (var o word : ℕ) (few : var < 16) (found : held_in u var ≡ Some o) (own : HasNumber u u.number)
     (named : Answered u (event_of u (act.Name (field.Trusted o)) (reply.Word word)) v) where
