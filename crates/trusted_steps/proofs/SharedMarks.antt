@@ -101,6 +101,10 @@ mark_for-cycle b phase word is = ap (λ n. mark_for b n word) is
 pub mark_for-none : (b phase word : ℕ) → phase ≡ 0 → mark_for b phase word ≡ []
 mark_for-none b phase word is = ap (λ n. mark_for b n word) is
 
+pub phase_none : (phase : ℕ) (in_cycle : Bool) → phase ≡ (if in_cycle then 1 else 0) → false ≡ (phase == 1) → phase ≡ 0
+phase_none phase true is test = absurd (let t : (phase == 1) ≡ true = grind (arith, nat_tests) in cc)
+phase_none phase false is test = is
+
 mark_for-before : (b word phase : ℕ) (cycle : Option Cycle) → phase_word cycle ≡ phase → mark_for b phase word ≡ mark_before b cycle word
 mark_for-before b word phase None is = mark_for-none b phase word (sym is)
 mark_for-before b word phase (Some c) is = mark_for-cycle b phase word (sym is)

@@ -7,7 +7,11 @@ pub returns-in-None-clause-made : goal.returns-in-None-clause-made
 returns-in-None-clause-made c = Made-tnew_empty (view c.args.s.now) c.args.var c.args.tag c.args.value c.requires.range (sym c.held.ensures ∙ c.in-None.is)
 
 pub returns-in-Some-ticket-clause-made : goal.returns-in-Some-ticket-clause-made
-returns-in-Some-ticket-clause-made c = ?
+returns-in-Some-ticket-clause-made c =
+    Made-tnew_pending (view c.args.s.now) c.args.var c.in-Some.object c.args.tag c.args.value _ c.requires.range (sym c.held.ensures ∙ c.in-Some.is)
+    (sym c.ticket.ensures ∙ c.in-Some-ticket.is)
 
 pub returns-in-None-ticket-clause-made : goal.returns-in-None-ticket-clause-made
-returns-in-None-ticket-clause-made c = ?
+returns-in-None-ticket-clause-made c =
+    Made-tnew (view c.args.s.now) (view c.fill_new.new.s) c.args.var c.in-Some.object c.args.tag c.args.value c.fill_new.result c.requires.range
+    (sym c.held.ensures ∙ c.in-Some.is) (sym c.ticket.ensures ∙ c.in-None-ticket.is) c.fill_new.ensures.fills c.fill_new.ensures.leaves
