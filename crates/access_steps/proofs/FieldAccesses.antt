@@ -1,5 +1,5 @@
 -- The calls by external fields.
-use Rattle.std.proofs.Common.{◌≡◌, ◌⊎◌, ℕ, ◌+◌, ◌*◌, ◌<◌, List, [], ◌∷◌, ◌++◌, Option, Some, None, refl, sym, ap, subst, ◌∙◌, inl, inr}
+use Rattle.std.proofs.Common.{◌≡◌, ℕ, ◌+◌, ◌*◌, ◌<◌, List, [], ◌∷◌, Option, Some, None, refl, ap, subst, ◌∙◌, inl, inr}
 use Rattle.std.specs.Option.{option_map}
 use Rattle.plain_table.specs.declared.events.Act.{Act}
 use Rattle.plain_table.specs.declared.events.Act.TheVariants as act
@@ -113,14 +113,20 @@ module _ (u w : View) (var f number : ℕ) (few : var < 16) (found : field_numbe
 
     pub Made-store : (value : ℕ) → Writes v word first last (act.Set word first last value) said w → Made u (op.Store var f first last value) said w
     Made-store value writes = Made-writes (act.Set word first last value) writes (λ held. refl, λ ticket. refl) _
-        (by_number said _ (λ n. IsStore u.number (field.External n) first last value said (name_event ∷ writes.own)) (word, elim (shape_here (act.Set word first last value) writes (λ held. refl, λ ticket. refl)) [
-          | inl missed ↦ inl (missed.0, ap (λ l. name_event ∷ l) missed.1)
-          | inr stored ↦ inr (stored.0, ap (λ l. name_event ∷ l) stored.1)
-        ]))
+        (by_number said _ (λ n. IsStore u.number (field.External n) first last value said (name_event ∷ writes.own)) (
+          word,
+          elim (shape_here (act.Set word first last value) writes (λ held. refl, λ ticket. refl)) [
+            | inl missed ↦ inl (missed.0, ap (λ l. name_event ∷ l) missed.1)
+            | inr stored ↦ inr (stored.0, ap (λ l. name_event ∷ l) stored.1)
+          ],
+        ))
 
     pub Made-swap : (value : ℕ) → Writes v word first last (act.Swap word first last value) said w → Made u (op.Swap var f first last value) said w
     Made-swap value writes = Made-writes (act.Swap word first last value) writes (λ held. refl, λ ticket. refl) _
-        (by_number said _ (λ n. IsSwap u.number (field.External n) first last value said (name_event ∷ writes.own)) (word, elim (shape_here (act.Swap word first last value) writes (λ held. refl, λ ticket. refl)) [
-          | inl missed ↦ inl (missed.0, ap (λ l. name_event ∷ l) missed.1)
-          | inr swapped ↦ inr (swapped.0, ap (λ l. name_event ∷ l) swapped.1)
-        ]))
+        (by_number said _ (λ n. IsSwap u.number (field.External n) first last value said (name_event ∷ writes.own)) (
+          word,
+          elim (shape_here (act.Swap word first last value) writes (λ held. refl, λ ticket. refl)) [
+            | inl missed ↦ inl (missed.0, ap (λ l. name_event ∷ l) missed.1)
+            | inr swapped ↦ inr (swapped.0, ap (λ l. name_event ∷ l) swapped.1)
+          ],
+        ))

@@ -1,5 +1,5 @@
 -- The events of an init.
-use Rattle.std.proofs.Common.{◌≡◌, ◌⊎◌, ℕ, ◌<◌, ◌==◌, if◌then◌else◌, Bool, true, false, List, [], ◌∷◌, ◌++◌, Some, refl, sym, ap, subst, ◌∙◌, inl, inr, arith, append_assoc}
+use Rattle.std.proofs.Common.{◌≡◌, ℕ, ◌<◌, ◌==◌, if◌then◌else◌, Bool, true, false, List, [], ◌∷◌, ◌++◌, Some, refl, sym, ap, subst, ◌∙◌, inl, inr, arith, append_assoc}
 use Rattle.std.proofs.lemmas.Bool.Decides.{nat_tests}
 use Rattle.plain_table.specs.declared.events.Act.TheVariants as act
 use Rattle.plain_table.specs.declared.events.Event.{Event}
@@ -10,7 +10,7 @@ use Rattle.plain_table.specs.declared.reports.Reply.{Reply}
 use Rattle.plain_table.specs.declared.reports.Reply.TheVariants as reply
 use Rattle.plain_table.specs.Cycle.{is_from}
 use Rattle.plain_table.specs.Index.{word_of}
-use Rattle.plain_table.specs.Shapes.{IsInit, event, held_after, own_after}
+use Rattle.plain_table.specs.Shapes.{IsInit, event}
 use Rattle.entry_base.specs.declared.view.View.{View}
 use Rattle.entry_base.specs.Callers.{event_of}
 use Rattle.entry_base.specs.Numbers.{HasNumber}
@@ -21,7 +21,7 @@ use Rattle.call_base.proofs.CallsInOrder.{EndsWith-last, called_extends, called_
 use Rattle.call_base.proofs.HeldVariables.{held_suits}
 use Rattle.call_base.proofs.OneEvent.{made_stays}
 use Rattle.access_steps.specs.Accesses.{field_number}
-use Rattle.access_steps.specs.Inits.{BindsNew, IsNewBinding, abort_for, bind_events}
+use Rattle.access_steps.specs.Inits.{BindsNew, abort_for, bind_events}
 use Rattle.access_steps.proofs.FieldAccesses.{WithObject-field}
 use Rattle.access_steps.proofs.Writes.{IsStill}
 
@@ -66,9 +66,12 @@ module _ (u v w x y : View) (number tag value i word found : ℕ)
     own = before_bind ++ bind_event u.number ∷ [];
     called = called_then u x y before_bind (λ b. bind_event b ∷ []) called_before last_called;
     ends = EndsWith-last before_bind (bind_event u.number) (x.seen ++ bound.extends.between) y.seen ends_at;
-    shape = inr (i, append_assoc (event u.number (act.Take External) (reply.Index i) ∷ abort_for u.number (start_of u.opening) i)
-        (event u.number (act.Put External i tag value) reply.Ok ∷ []) (bind_event u.number ∷ [])
-        ∙ ap (bind_events u.number (start_of u.opening) number tag value i) is);
+    shape = inr (
+      i,
+      append_assoc (event u.number (act.Take External) (reply.Index i) ∷ abort_for u.number (start_of u.opening) i)
+          (event u.number (act.Put External i tag value) reply.Ok ∷ []) (bind_event u.number ∷ [])
+          ∙ ap (bind_events u.number (start_of u.opening) number tag value i) is,
+    );
   }
 
 -- none of these events changes variables or tickets

@@ -1,10 +1,9 @@
 -- Looks at words of the external space, and the writes that follow them.
-use Rattle.std.proofs.Common.{◌≡◌, ◌⊎◌, ℕ, List, [], ◌∷◌, ◌++◌, refl, sym, ap, subst, ◌∙◌, inl, inr}
+use Rattle.std.proofs.Common.{◌≡◌, ℕ, List, [], ◌∷◌, ◌++◌, refl, sym, ap, subst, ◌∙◌, inl, inr}
 use Rattle.plain_table.specs.declared.events.Act.{Act}
 use Rattle.plain_table.specs.declared.events.Act.TheVariants as act
 use Rattle.plain_table.specs.declared.events.Event.{Event}
 use Rattle.plain_table.specs.declared.events.Space.TheVariants.{External}
-use Rattle.plain_table.specs.declared.scripts.Op.TheVariants as op
 use Rattle.plain_table.specs.declared.reports.Reply.{Reply}
 use Rattle.plain_table.specs.declared.reports.Reply.TheVariants as reply
 use Rattle.plain_table.specs.Shapes.{Held, OwnTicket, event, held_after, held_next, own_after, own_next}
@@ -12,9 +11,9 @@ use Rattle.entry_base.specs.declared.view.View.{View}
 use Rattle.entry_base.specs.Callers.{event_of}
 use Rattle.entry_base.specs.Learned.{Answered}
 use Rattle.entry_base.specs.Numbers.{HasNumber}
-use Rattle.call_base.specs.Called.{Called, EndsWith, LeavesOwn, Made}
-use Rattle.call_base.proofs.CallsInOrder.{EndsWith-last, called_then, suits_stay}
-use Rattle.call_base.proofs.OneEvent.{called_once, made_stays}
+use Rattle.call_base.specs.Called.{Called, EndsWith}
+use Rattle.call_base.proofs.CallsInOrder.{called_then}
+use Rattle.call_base.proofs.OneEvent.{called_once}
 use Rattle.access_steps.specs.Accesses.{IsLookAndWrite, Writes}
 
 -- a look that found a value, and the write
@@ -24,8 +23,11 @@ Writes-found u v w word first last old known write said same looked own answered
   own = event_of u (act.Look External word first last) (reply.Value old) ∷ event_of u write said ∷ [];
   called = called_then u v w (event_of u (act.Look External word first last) (reply.Value old) ∷ []) (λ b. event b write said ∷ []) looked
       (subst (λ a. Called v (event_of v a said ∷ []) w) same (called_once v w known said own answered.same answered.extends));
-  ends = (v.seen ++ answered.extends.between, answered.extends.seen ∙ (ap (λ a. (v.seen ++ answered.extends.between) ++ event v.number a said ∷ []) same
-      ∙ ap (λ b. (v.seen ++ answered.extends.between) ++ event b write said ∷ []) looked.same.number));
+  ends = (
+    v.seen ++ answered.extends.between,
+    answered.extends.seen ∙ (ap (λ a. (v.seen ++ answered.extends.between) ++ event v.number a said ∷ []) same
+        ∙ ap (λ b. (v.seen ++ answered.extends.between) ++ event b write said ∷ []) looked.same.number),
+  );
   shape = inr (old, refl);
 }
 

@@ -88,14 +88,7 @@ pub fn load(shared: &Shared, s: &mut Session, var: u32, f: u32, range: Range) ->
 /// Stores a value below 2^48 by external field `f` of the object that a variable holds, where a look at the field's word finds a
 /// value under a range of tags, and else answers as the look does; or Empty exactly where the variable holds nothing. The cell
 /// keeps its tag.
-pub fn store(
-    shared: &Shared,
-    s: &mut Session,
-    var: u32,
-    f: u32,
-    range: Range,
-    value: u64,
-) -> Reply
+pub fn store(shared: &Shared, s: &mut Session, var: u32, f: u32, range: Range, value: u64) -> Reply
     requires caller { IsOf shared.now s.old }
     requires mutator { (view s.old).number < 8 }
     requires range { (var < 16) × (f < 2) }
@@ -115,14 +108,7 @@ pub fn store(
 }
 
 /// Exchanges the value of a cell as `store` stores one, and answers the value that stood there.
-pub fn swap(
-    shared: &Shared,
-    s: &mut Session,
-    var: u32,
-    f: u32,
-    range: Range,
-    value: u64,
-) -> Reply
+pub fn swap(shared: &Shared, s: &mut Session, var: u32, f: u32, range: Range, value: u64) -> Reply
     requires caller { IsOf shared.now s.old }
     requires mutator { (view s.old).number < 8 }
     requires range { (var < 16) × (f < 2) }

@@ -1,4 +1,4 @@
-use Rattle.std.proofs.Common.{[], ◌∷◌, ℕ, subst}
+use Rattle.std.proofs.Common.{[], ◌∷◌, subst}
 use Rattle.plain_table.specs.declared.events.Act.TheVariants as act
 use Rattle.plain_table.specs.declared.events.Space.TheVariants.{External}
 use Rattle.entry_base.specs.Callers.{event_of}
