@@ -9,7 +9,7 @@ use Rattle.plain_table.specs.declared.events.Space.TheVariants.{External}
 use Rattle.plain_table.specs.declared.reports.Reply.{Reply}
 use Rattle.plain_table.specs.declared.reports.Reply.TheVariants as reply
 use Rattle.plain_table.specs.Index.{index_of}
-use Rattle.plain_table.specs.Rows.{IsTag, is_asked}
+use Rattle.plain_table.specs.Rows.{IsTag, is_asked, look}
 use Rattle.plain_table.specs.Shapes.{IsMiss, event}
 use Rattle.plain_table.specs.Table.{limit_in}
 use Rattle.word_laws.specs.ReadLaws.{tag_bits}
@@ -18,7 +18,7 @@ use Rattle.entry_base.specs.declared.view.View.{View}
 use Rattle.entry_base.specs.Lists.{Has}
 use Rattle.entry_base.specs.Openings.{sizes_in}
 use Rattle.entry_base.specs.Sessions.{held_in}
-use Rattle.call_base.specs.Called.{Called, EndsWith}
+use Rattle.call_base.specs.Called.{Called, EndsWith, HeldAtLast}
 use Rattle.access_steps.specs.declared.looks.Looked.{Looked}
 use Rattle.access_steps.specs.declared.looks.Looked.TheVariants as looked
 
@@ -31,6 +31,10 @@ abbrev pub reply_of : Looked → Reply
 reply_of looked.Null = reply.Null
 reply_of looked.Fault = reply.Fault
 reply_of (looked.Found tag value) = reply.Value value
+
+-- a look at the last event of what was seen answers this
+abbrev pub IsLookAtEvent : View → Space → ℕ → ℕ → ℕ → Reply → Type 0
+IsLookAtEvent w p word first last said = HeldAtLast w.opening w.seen (λ t. said ≡ look t p word first last)
 
 -- the tag of what was found is asked
 abbrev pub IsAskedIn : ℕ → ℕ → Looked → Type 0

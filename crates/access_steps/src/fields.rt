@@ -1,13 +1,14 @@
 // The calls by external field `f`, below 2, of the object that a variable, below 16, holds.
-ghost use Rattle.std.specs.Prelude.{◌≡◌, ◌↔◌, ◌^◌, ◌<◌, IfSome, None};
+ghost use Rattle.std.specs.Prelude.{◌≡◌, ◌≢◌, ◌↔◌, ℕ, ◌^◌, ◌<◌, IfSome, None};
 ghost use Rattle.plain_table.specs.declared.events.Field.TheVariants as field;
+ghost use Rattle.plain_table.specs.declared.events.Space.TheVariants.{External};
 ghost use Rattle.plain_table.specs.declared.reports.Reply.TheVariants as reply;
 ghost use Rattle.plain_table.specs.declared.scripts.Op.TheVariants as op;
 ghost use Rattle.plain_table.specs.Places.{object_of};
 ghost use Rattle.entry_base.specs.Owns.{IsHeld};
 ghost use Rattle.entry_base.specs.Sessions.{view, held_in, IsOf};
 ghost use Rattle.call_base.specs.Called.{LeavesOwn, Made};
-ghost use Rattle.access_steps.specs.Accesses.{field_number};
+ghost use Rattle.access_steps.specs.Accesses.{field_number, IsLookAtEvent};
 
 use crate::looks::{look, reply_of};
 use crate::words::{store_at, swap_at};
@@ -73,6 +74,7 @@ pub fn load(shared: &Shared, s: &mut Session, var: u32, f: u32, range: Range) ->
     requires range { (var < 16) × (f < 2) }
     ensures caller { IsOf shared.now s.new }
     ensures made { Made (view s.old) (op.Load var f range.first range.last) result (view s.new) }
+    ensures answer { (result ≢ reply.Empty) → (word : ℕ) × IsLookAtEvent (view s.new) External word range.first range.last result }
     ensures leaves { LeavesOwn (view s.old) (view s.new) }
     ensures empty { (result ≡ reply.Empty) ↔ (held_in (view s.old) var ≡ None) }
 {
