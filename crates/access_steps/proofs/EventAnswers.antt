@@ -1,5 +1,5 @@
 -- What the last event of a call answers, by the table right before it.
-use Rattle.std.proofs.Common.{◌≡◌, ◌≢◌, ℕ, ◌==◌, if◌then◌else◌, Bool, true, false, List, [], ◌∷◌, Option, Some, None, refl, sym, ap, subst, ◌∙◌, arith}
+use Rattle.std.proofs.Common.{◌≡◌, ◌≢◌, ℕ, List, [], ◌∷◌, Option, Some, None, refl, sym, ap, subst, subst₂, ◌∙◌, arith}
 use Rattle.std.proofs.lemmas.Bool.Decides.{nat_tests}
 use Rattle.std.specs.Option.{option_map_or}
 use Rattle.plain_table.specs.declared.events.Act.TheVariants as act
@@ -10,7 +10,8 @@ use Rattle.plain_table.specs.declared.events.Space.TheVariants.{External}
 use Rattle.plain_table.specs.declared.reports.Reply.{Reply}
 use Rattle.plain_table.specs.declared.reports.Reply.TheVariants as reply
 use Rattle.plain_table.specs.History.{IsLegal, IsLegalHistory, after}
-use Rattle.plain_table.specs.Rows.{look}
+use Rattle.plain_table.specs.Index.{index_of}
+use Rattle.plain_table.specs.Rows.{HasCell, look, value_at}
 use Rattle.plain_table.specs.Shapes.{event}
 use Rattle.plain_table.specs.Table.{Table, least_free}
 use Rattle.entry_base.specs.declared.view.Opening.{Opening}
@@ -21,9 +22,8 @@ use Rattle.entry_base.specs.Learned.{Answered}
 use Rattle.object_rule.specs.Fields.{Bound, bind_reply}
 use Rattle.call_base.specs.Called.{EndsWith, HeldAtLast}
 use Rattle.call_base.proofs.OneEvent.{IsLegalHistory-last, held_at_last}
-use Rattle.access_steps.specs.Accesses.{IsLookAtEvent}
+use Rattle.access_steps.specs.Accesses.{IsLookAtEvent, IsStoreAtEvent, IsSwapAtEvent, IsWordAtEvent}
 use Rattle.access_steps.specs.Inits.{IsInitAtEvent}
-
 
 -- the last event was legal in the table right before it
 pub HeldAtLast-ends : (key : Opening) (seen : List Event) (e : Event) (P : Table → Type 0) → EndsWith (e ∷ []) seen → IsPhaseHistory key seen
@@ -41,6 +41,33 @@ IsLookAtEvent-looked v w p word first last low high known said at_first at_last 
     subst (λ key. HeldAtLast key w.seen (λ t. said ≡ look t p word first last)) (sym answered.same.opening)
     (held_at_last v w (event_of v (act.Look p word low high) known) (λ t. said ≡ look t p word first last) answered.extends
     (λ t sound sizes legal. sym is ∙ (legal.1 ∙ (ap (λ n. look t p word n high) at_first ∙ ap (λ n. look t p word first n) at_last))))
+
+pub IsStoreAtEvent-stored : (v w : View) (word first last low high value : ℕ) → low ≡ first → high ≡ last → Answered v (event_of v (act.Set word low high value) reply.Ok) w
+    → IsStoreAtEvent w word first last reply.Ok
+IsStoreAtEvent-stored v w word first last low high value at_first at_last answered =
+    subst (λ key. HeldAtLast key w.seen (λ t. HasCell t word first last)) (sym answered.same.opening)
+    (held_at_last v w (event_of v (act.Set word low high value) reply.Ok) (λ t. HasCell t word first last) answered.extends
+    (λ t sound sizes legal. subst₂ (HasCell t word) at_first at_last legal.0.0))
+
+same_value : (old found : ℕ) → reply.Value old ≡ reply.Value found → old ≡ found
+same_value old found is = cc
+
+pub IsSwapAtEvent-swapped : (v w : View) (word first last low high value old : ℕ) → low ≡ first → high ≡ last
+    → Answered v (event_of v (act.Swap word low high value) (reply.Value old)) w → IsSwapAtEvent w word first last (reply.Value old)
+IsSwapAtEvent-swapped v w word first last low high value old at_first at_last answered =
+    subst (λ key. HeldAtLast key w.seen (λ t. HasCell t word first last × (old ≡ value_at (t.cells External (index_of word))))) (sym answered.same.opening)
+    (held_at_last v w (event_of v (act.Swap word low high value) (reply.Value old)) (λ t. HasCell t word first last × (old ≡ value_at (t.cells External (index_of word)))) answered.extends
+    (λ t sound sizes legal. (subst₂ (HasCell t word) at_first at_last legal.0.0, same_value old (value_at (t.cells External (index_of word))) legal.1)))
+
+pub IsWordAtEvent-named : (v w : View) (number word : ℕ) → Answered v (event_of v (act.Name (field.External number)) (reply.Word word)) w → IsWordAtEvent w number (reply.Word word)
+IsWordAtEvent-named v w number word answered =
+    subst (λ key. HeldAtLast key w.seen (λ t. reply.Word word ≡ reply.Word (t.words (field.External number)))) (sym answered.same.opening)
+    (held_at_last v w (event_of v (act.Name (field.External number)) (reply.Word word)) (λ t. reply.Word word ≡ reply.Word (t.words (field.External number))) answered.extends
+    (λ t sound sizes legal. legal.1))
+
+-- and so by any number that is the field's
+pub IsWordAtEvent-number : (w : View) (number other : ℕ) (said : Reply) → Some number ≡ Some other → IsWordAtEvent w number said → IsWordAtEvent w other said
+IsWordAtEvent-number w number other said is named = let same : number ≡ other = cc in subst (λ n. IsWordAtEvent w n said) same named
 
 -- a take that finds the space full
 least_free-full : (found : Option ℕ) → reply.Full ≡ option_map_or reply.Index found reply.Full → found ≡ None

@@ -6,7 +6,7 @@ ghost use Rattle.plain_table.specs.declared.reports.Reply.TheVariants as reply;
 ghost use Rattle.plain_table.specs.declared.scripts.Op.TheVariants as op;
 ghost use Rattle.entry_base.specs.Sessions.{view, IsOf};
 ghost use Rattle.call_base.specs.Called.{LeavesOwn, Made};
-ghost use Rattle.access_steps.specs.Accesses.{IsLookAtEvent, Writes};
+ghost use Rattle.access_steps.specs.Accesses.{IsLookAtEvent, IsStoreAtEvent, IsSwapAtEvent, Writes};
 
 use crate::looks::{Looked, look, reply_of};
 use entry_base::{Session, Shared};
@@ -36,6 +36,7 @@ pub fn raw_store(shared: &Shared, s: &mut Session, word: u32, range: Range, valu
     requires small { value < 2 ^ 48 }
     ensures caller { IsOf shared.now s.new }
     ensures made { Made (view s.old) (op.RawSet word range.first range.last value) result (view s.new) }
+    ensures answer { IsStoreAtEvent (view s.new) word range.first range.last result }
     ensures leaves { LeavesOwn (view s.old) (view s.new) }
     ensures some { result ≢ reply.Empty }
 {
@@ -54,6 +55,7 @@ pub(crate) fn store_at(
     requires small { value < 2 ^ 48 }
     ensures caller { IsOf shared.now s.new }
     ensures writes { Writes (view s.old) word range.first range.last (act.Set word range.first range.last value) result (view s.new) }
+    ensures answer { IsStoreAtEvent (view s.new) word range.first range.last result }
     ensures leaves { LeavesOwn (view s.old) (view s.new) }
     ensures some { result ≢ reply.Empty }
 {
@@ -82,6 +84,7 @@ pub(crate) fn swap_at(
     requires small { value < 2 ^ 48 }
     ensures caller { IsOf shared.now s.new }
     ensures writes { Writes (view s.old) word range.first range.last (act.Swap word range.first range.last value) result (view s.new) }
+    ensures answer { IsSwapAtEvent (view s.new) word range.first range.last result }
     ensures leaves { LeavesOwn (view s.old) (view s.new) }
     ensures some { result ≢ reply.Empty }
 {
