@@ -1,5 +1,4 @@
 use Rattle.std.proofs.Common.{arith}
-use Rattle.entry_base.specs.Sessions.{view}
 use Rattle.space_steps.proofs.TakeTurns.{takes_grow}
 use Rattle.space_steps.proofs.takes.advance.Goals as goal
 

@@ -1,0 +1,3 @@
+pub mod TrustedCalls
+pub mod EntryFills
+pub mod SharedMarks
