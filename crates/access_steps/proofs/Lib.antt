@@ -2,3 +2,4 @@ pub mod LookReads
 pub mod Writes
 pub mod FieldAccesses
 pub mod NewBindings
+pub mod EventAnswers

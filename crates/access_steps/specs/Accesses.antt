@@ -4,12 +4,13 @@ use Rattle.std.specs.Option.{option_map}
 use Rattle.plain_table.specs.declared.events.Act.{Act}
 use Rattle.plain_table.specs.declared.events.Act.TheVariants as act
 use Rattle.plain_table.specs.declared.events.Event.{Event}
+use Rattle.plain_table.specs.declared.events.Field.TheVariants as field
 use Rattle.plain_table.specs.declared.events.Space.{Space}
 use Rattle.plain_table.specs.declared.events.Space.TheVariants.{External}
 use Rattle.plain_table.specs.declared.reports.Reply.{Reply}
 use Rattle.plain_table.specs.declared.reports.Reply.TheVariants as reply
 use Rattle.plain_table.specs.Index.{index_of}
-use Rattle.plain_table.specs.Rows.{IsTag, is_asked}
+use Rattle.plain_table.specs.Rows.{HasCell, IsTag, is_asked, look, value_at}
 use Rattle.plain_table.specs.Shapes.{IsMiss, event}
 use Rattle.plain_table.specs.Table.{limit_in}
 use Rattle.word_laws.specs.ReadLaws.{tag_bits}
@@ -18,7 +19,7 @@ use Rattle.entry_base.specs.declared.view.View.{View}
 use Rattle.entry_base.specs.Lists.{Has}
 use Rattle.entry_base.specs.Openings.{sizes_in}
 use Rattle.entry_base.specs.Sessions.{held_in}
-use Rattle.call_base.specs.Called.{Called, EndsWith}
+use Rattle.call_base.specs.Called.{Called, EndsWith, HeldAtLast}
 use Rattle.access_steps.specs.declared.looks.Looked.{Looked}
 use Rattle.access_steps.specs.declared.looks.Looked.TheVariants as looked
 
@@ -31,6 +32,25 @@ abbrev pub reply_of : Looked → Reply
 reply_of looked.Null = reply.Null
 reply_of looked.Fault = reply.Fault
 reply_of (looked.Found tag value) = reply.Value value
+
+-- a look at the last event of what was seen answers this
+abbrev pub IsLookAtEvent : View → Space → ℕ → ℕ → ℕ → Reply → Type 0
+IsLookAtEvent w p word first last said = HeldAtLast w.opening w.seen (λ t. said ≡ look t p word first last)
+
+-- a field names this word at the last event
+abbrev pub IsWordAtEvent : View → ℕ → Reply → Type 0
+IsWordAtEvent w number said = HeldAtLast w.opening w.seen (λ t. said ≡ reply.Word (t.words (field.External number)))
+
+-- a store says ok where a cell whose tag is asked stands at its event, and else what its look answers
+abbrev pub IsStoreAtEvent : View → ℕ → ℕ → ℕ → Reply → Type 0
+IsStoreAtEvent w word first last reply.Ok = HeldAtLast w.opening w.seen (λ t. HasCell t word first last)
+IsStoreAtEvent w word first last said = IsMiss said × IsLookAtEvent w External word first last said
+
+-- and a swap says the value of such a cell
+abbrev pub IsSwapAtEvent : View → ℕ → ℕ → ℕ → Reply → Type 0
+IsSwapAtEvent w word first last (reply.Value old) =
+    HeldAtLast w.opening w.seen (λ t. HasCell t word first last × (old ≡ value_at (t.cells External (index_of word))))
+IsSwapAtEvent w word first last said = IsMiss said × IsLookAtEvent w External word first last said
 
 -- the tag of what was found is asked
 abbrev pub IsAskedIn : ℕ → ℕ → Looked → Type 0

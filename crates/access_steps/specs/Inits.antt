@@ -1,6 +1,6 @@
 -- What an init rests on: the ticket of an external index, the abort before a put in the evacuation area, and the events of an init
 -- by the number of its field.
-use Rattle.std.specs.Prelude.{◌≡◌, ◌⊎◌, ℕ, ◌<◌, if◌then◌else◌, List, [], ◌∷◌, ◌++◌, Option}
+use Rattle.std.specs.Prelude.{◌≡◌, ◌≢◌, ◌⊎◌, ℕ, ◌<◌, if◌then◌else◌, List, [], ◌∷◌, ◌++◌, Option, None}
 use Rattle.plain_table.specs.declared.events.Act.TheVariants as act
 use Rattle.plain_table.specs.declared.events.Event.{Event}
 use Rattle.plain_table.specs.declared.events.Field.TheVariants as field
@@ -10,12 +10,12 @@ use Rattle.plain_table.specs.declared.reports.Reply.TheVariants as reply
 use Rattle.plain_table.specs.Cycle.{is_from}
 use Rattle.plain_table.specs.Index.{word_of}
 use Rattle.plain_table.specs.Shapes.{event}
-use Rattle.plain_table.specs.Table.{limit_in}
+use Rattle.plain_table.specs.Table.{least_free, limit_in}
 use Rattle.entry_base.specs.declared.view.View.{View}
 use Rattle.entry_base.specs.Openings.{sizes_in, start_of}
 use Rattle.space_steps.specs.declared.tickets.Ticket.{Ticket}
 use Rattle.space_steps.specs.Tickets.{IsTicketOf}
-use Rattle.call_base.specs.Called.{Called, EndsWith}
+use Rattle.call_base.specs.Called.{Called, EndsWith, HeldAtLast}
 
 -- an external index that the caller's own number took and did not fill
 pub record IsOwnTicket (v : View) (t : Ticket) : Type 0 where
@@ -48,3 +48,10 @@ pub record BindsNew (v : View) (number tag value : ℕ) (said : Reply) (w : View
   pub called : Called v own w
   pub ends : EndsWith own w.seen
   pub shape : IsNewBinding v.number (start_of v.opening) number tag value said own
+
+-- why an init answers what it does: no index was free at its last event, or what its bind found in the field there
+abbrev pub IsInitAtEvent : View → ℕ → Reply → Type 0
+IsInitAtEvent w number reply.Full = HeldAtLast w.opening w.seen (λ t. least_free t External ≡ None)
+IsInitAtEvent w number reply.Ok = HeldAtLast w.opening w.seen (λ t. t.words (field.External number) ≡ 0)
+IsInitAtEvent w number (reply.Taken found) = HeldAtLast w.opening w.seen (λ t. (found ≢ 0) × (t.words (field.External number) ≡ found))
+IsInitAtEvent w number said = ⊥

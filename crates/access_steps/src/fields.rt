@@ -1,13 +1,14 @@
 // The calls by external field `f`, below 2, of the object that a variable, below 16, holds.
-ghost use Rattle.std.specs.Prelude.{◌≡◌, ◌↔◌, ◌^◌, ◌<◌, IfSome, None};
+ghost use Rattle.std.specs.Prelude.{◌≡◌, ◌≢◌, ◌↔◌, ℕ, ◌^◌, ◌<◌, IfSome, None, Some};
 ghost use Rattle.plain_table.specs.declared.events.Field.TheVariants as field;
+ghost use Rattle.plain_table.specs.declared.events.Space.TheVariants.{External};
 ghost use Rattle.plain_table.specs.declared.reports.Reply.TheVariants as reply;
 ghost use Rattle.plain_table.specs.declared.scripts.Op.TheVariants as op;
 ghost use Rattle.plain_table.specs.Places.{object_of};
 ghost use Rattle.entry_base.specs.Owns.{IsHeld};
 ghost use Rattle.entry_base.specs.Sessions.{view, held_in, IsOf};
 ghost use Rattle.call_base.specs.Called.{LeavesOwn, Made};
-ghost use Rattle.access_steps.specs.Accesses.{field_number};
+ghost use Rattle.access_steps.specs.Accesses.{field_number, IsLookAtEvent, IsStoreAtEvent, IsSwapAtEvent, IsWordAtEvent};
 
 use crate::looks::{look, reply_of};
 use crate::words::{store_at, swap_at};
@@ -36,6 +37,7 @@ pub fn name(shared: &Shared, s: &mut Session, var: u32, f: u32) -> Reply
     requires range { (var < 16) × (f < 2) }
     ensures caller { IsOf shared.now s.new }
     ensures made { Made (view s.old) (op.Name var f) result (view s.new) }
+    ensures answer { (number : ℕ) → field_number (view s.old) var f ≡ Some number → IsWordAtEvent (view s.new) number result }
     ensures leaves { LeavesOwn (view s.old) (view s.new) }
     ensures empty { (result ≡ reply.Empty) ↔ (held_in (view s.old) var ≡ None) }
 {
@@ -53,6 +55,7 @@ pub fn forge(shared: &Shared, s: &mut Session, var: u32, f: u32, word: u32) -> R
     requires range { (var < 16) × (f < 2) }
     ensures caller { IsOf shared.now s.new }
     ensures made { Made (view s.old) (op.Forge var f word) result (view s.new) }
+    ensures ok { (result ≢ reply.Empty) → result ≡ reply.Ok }
     ensures leaves { LeavesOwn (view s.old) (view s.new) }
     ensures empty { (result ≡ reply.Empty) ↔ (held_in (view s.old) var ≡ None) }
 {
@@ -73,6 +76,7 @@ pub fn load(shared: &Shared, s: &mut Session, var: u32, f: u32, range: Range) ->
     requires range { (var < 16) × (f < 2) }
     ensures caller { IsOf shared.now s.new }
     ensures made { Made (view s.old) (op.Load var f range.first range.last) result (view s.new) }
+    ensures answer { (result ≢ reply.Empty) → (word : ℕ) × IsLookAtEvent (view s.new) External word range.first range.last result }
     ensures leaves { LeavesOwn (view s.old) (view s.new) }
     ensures empty { (result ≡ reply.Empty) ↔ (held_in (view s.old) var ≡ None) }
 {
@@ -95,6 +99,7 @@ pub fn store(shared: &Shared, s: &mut Session, var: u32, f: u32, range: Range, v
     requires small { value < 2 ^ 48 }
     ensures caller { IsOf shared.now s.new }
     ensures made { Made (view s.old) (op.Store var f range.first range.last value) result (view s.new) }
+    ensures answer { (result ≢ reply.Empty) → (word : ℕ) × IsStoreAtEvent (view s.new) word range.first range.last result }
     ensures leaves { LeavesOwn (view s.old) (view s.new) }
     ensures empty { (result ≡ reply.Empty) ↔ (held_in (view s.old) var ≡ None) }
 {
@@ -115,6 +120,7 @@ pub fn swap(shared: &Shared, s: &mut Session, var: u32, f: u32, range: Range, va
     requires small { value < 2 ^ 48 }
     ensures caller { IsOf shared.now s.new }
     ensures made { Made (view s.old) (op.Swap var f range.first range.last value) result (view s.new) }
+    ensures answer { (result ≢ reply.Empty) → (word : ℕ) × IsSwapAtEvent (view s.new) word range.first range.last result }
     ensures leaves { LeavesOwn (view s.old) (view s.new) }
     ensures empty { (result ≡ reply.Empty) ↔ (held_in (view s.old) var ≡ None) }
 {

@@ -1,5 +1,5 @@
 // Init: an external index is taken and filled with a new cell, and an external field is bound to it.
-ghost use Rattle.std.specs.Prelude.{◌≡◌, ◌≢◌, ◌↔◌, ◌^◌, ◌<◌, [], ◌∷◌, None};
+ghost use Rattle.std.specs.Prelude.{◌≡◌, ◌≢◌, ◌↔◌, ◌^◌, ◌<◌, ℕ, [], ◌∷◌, None, Some};
 ghost use Rattle.plain_table.specs.declared.events.Act.TheVariants as act;
 ghost use Rattle.plain_table.specs.declared.events.Field.TheVariants as field;
 ghost use Rattle.plain_table.specs.declared.events.Space.TheVariants.{External};
@@ -15,7 +15,8 @@ ghost use Rattle.entry_base.specs.Owns.{IsHeld};
 ghost use Rattle.entry_base.specs.Sessions.{view, held_in, IsOf};
 ghost use Rattle.entry_rule.specs.Entries.{MayPut, Put};
 ghost use Rattle.call_base.specs.Called.{Called, EndsWith, LeavesOwn, Made};
-ghost use Rattle.access_steps.specs.Inits.{abort_for, BindsNew, IsOwnTicket};
+ghost use Rattle.access_steps.specs.Accesses.{field_number};
+ghost use Rattle.access_steps.specs.Inits.{abort_for, BindsNew, IsInitAtEvent, IsOwnTicket};
 
 use crate::fields::field_number;
 use entry_base::{Session, Shared};
@@ -59,6 +60,7 @@ pub fn init(shared: &Shared, s: &mut Session, var: u32, f: u32, tag: Tag, value:
     requires small { value < 2 ^ 48 }
     ensures caller { IsOf shared.now s.new }
     ensures made { Made (view s.old) (op.Init var f tag value) result (view s.new) }
+    ensures answer { (number : ℕ) → field_number (view s.old) var f ≡ Some number → IsInitAtEvent (view s.new) number result }
     ensures leaves { LeavesOwn (view s.old) (view s.new) }
     ensures empty { (result ≡ reply.Empty) ↔ (held_in (view s.old) var ≡ None) }
 {
@@ -86,6 +88,7 @@ fn bind_new<L: Ledger>(
     requires one { blank.parts ≡ 1 }
     ensures caller { IsOf shared.now s.new }
     ensures binds { BindsNew (view s.old) number tag value result (view s.new) }
+    ensures answer { IsInitAtEvent (view s.new) number result }
     ensures leaves { LeavesOwn (view s.old) (view s.new) }
     ensures some { result ≢ reply.Empty }
 {

@@ -6,7 +6,7 @@ ghost use Rattle.word_laws.specs.ReadLaws.{seen_by, tag_bits};
 ghost use Rattle.entry_base.specs.Callers.{event_of};
 ghost use Rattle.entry_base.specs.Sessions.{view, IsOf};
 ghost use Rattle.call_base.specs.Called.{Called, EndsWith, LeavesOwn};
-ghost use Rattle.access_steps.specs.Accesses.{reply_of, IsAskedIn, IsTagIn, KnowsCell};
+ghost use Rattle.access_steps.specs.Accesses.{reply_of, IsAskedIn, IsLookAtEvent, IsTagIn, KnowsCell};
 
 use entry_base::{Session, Shared};
 use entry_rule::{look_beyond, look_step};
@@ -62,6 +62,7 @@ pub fn look(shared: &Shared, s: &mut Session, space: Space, word: u32, range: Ra
     ensures caller { IsOf shared.now s.new }
     ensures called { Called (view s.old) (event_of (view s.old) (act.Look space word range.first range.last) (reply_of result) ∷ []) (view s.new) }
     ensures ends { EndsWith (event_of (view s.old) (act.Look space word range.first range.last) (reply_of result) ∷ []) (view s.new).seen }
+    ensures answer { IsLookAtEvent (view s.new) space word range.first range.last (reply_of result) }
     ensures leaves { LeavesOwn (view s.old) (view s.new) }
     ensures asked { IsAskedIn range.first range.last result }
     ensures knows { KnowsCell (view s.new) space word result }

@@ -1,11 +1,12 @@
 // The calls by any word of the external space: loads and stores.
 ghost use Rattle.std.specs.Prelude.{◌≡◌, ◌≢◌, ◌^◌, ◌<◌};
 ghost use Rattle.plain_table.specs.declared.events.Act.TheVariants as act;
+ghost use Rattle.plain_table.specs.declared.events.Space.TheVariants.{External};
 ghost use Rattle.plain_table.specs.declared.reports.Reply.TheVariants as reply;
 ghost use Rattle.plain_table.specs.declared.scripts.Op.TheVariants as op;
 ghost use Rattle.entry_base.specs.Sessions.{view, IsOf};
 ghost use Rattle.call_base.specs.Called.{LeavesOwn, Made};
-ghost use Rattle.access_steps.specs.Accesses.{Writes};
+ghost use Rattle.access_steps.specs.Accesses.{IsLookAtEvent, IsStoreAtEvent, IsSwapAtEvent, Writes};
 
 use crate::looks::{Looked, look, reply_of};
 use entry_base::{Session, Shared};
@@ -20,6 +21,7 @@ pub fn raw_load(shared: &Shared, s: &mut Session, word: u32, range: Range) -> Re
     requires mutator { (view s.old).number < 8 }
     ensures caller { IsOf shared.now s.new }
     ensures made { Made (view s.old) (op.Raw word range.first range.last) result (view s.new) }
+    ensures answer { IsLookAtEvent (view s.new) External word range.first range.last result }
     ensures leaves { LeavesOwn (view s.old) (view s.new) }
     ensures some { result ≢ reply.Empty }
 {
@@ -34,6 +36,7 @@ pub fn raw_store(shared: &Shared, s: &mut Session, word: u32, range: Range, valu
     requires small { value < 2 ^ 48 }
     ensures caller { IsOf shared.now s.new }
     ensures made { Made (view s.old) (op.RawSet word range.first range.last value) result (view s.new) }
+    ensures answer { IsStoreAtEvent (view s.new) word range.first range.last result }
     ensures leaves { LeavesOwn (view s.old) (view s.new) }
     ensures some { result ≢ reply.Empty }
 {
@@ -52,6 +55,7 @@ pub(crate) fn store_at(
     requires small { value < 2 ^ 48 }
     ensures caller { IsOf shared.now s.new }
     ensures writes { Writes (view s.old) word range.first range.last (act.Set word range.first range.last value) result (view s.new) }
+    ensures answer { IsStoreAtEvent (view s.new) word range.first range.last result }
     ensures leaves { LeavesOwn (view s.old) (view s.new) }
     ensures some { result ≢ reply.Empty }
 {
@@ -80,6 +84,7 @@ pub(crate) fn swap_at(
     requires small { value < 2 ^ 48 }
     ensures caller { IsOf shared.now s.new }
     ensures writes { Writes (view s.old) word range.first range.last (act.Swap word range.first range.last value) result (view s.new) }
+    ensures answer { IsSwapAtEvent (view s.new) word range.first range.last result }
     ensures leaves { LeavesOwn (view s.old) (view s.new) }
     ensures some { result ≢ reply.Empty }
 {

@@ -6,6 +6,7 @@ use Rattle.entry_base.specs.Sessions.{view}
 use Rattle.call_base.specs.Called.{Called}
 use Rattle.access_steps.specs.Accesses.{reply_of}
 use Rattle.access_steps.proofs.Writes.{Writes-found}
+use Rattle.access_steps.proofs.EventAnswers.{IsSwapAtEvent-swapped}
 use Rattle.access_steps.proofs.words.swap_at.Goals as goal
 
 pub returns-in-Found-clause-writes : goal.returns-in-Found-clause-writes
@@ -19,3 +20,7 @@ returns-in-Found-clause-writes c =
     ∙ ap (λ n. act.Swap word range.first n value) (c.byte-last.ensures.value ∙ c.last.ensures.value))
     (subst (λ l. Called u (event_of u (act.Look External word range.first range.last) (reply_of l) ∷ []) (view c.look.new.s)) c.in-Found.is c.look.ensures.called)
     c.look.ensures.caller.1.own c.exchange_step-entry.ensures.learned
+
+pub returns-in-Found-clause-answer : goal.returns-in-Found-clause-answer
+returns-in-Found-clause-answer c =
+    IsSwapAtEvent-swapped _ _ c.args.word _ _ _ _ c.args.value _ (c.byte-first.ensures.value ∙ c.first.ensures.value) (c.byte-last.ensures.value ∙ c.last.ensures.value) c.exchange_step-entry.ensures.learned
