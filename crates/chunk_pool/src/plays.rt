@@ -7,6 +7,7 @@ use std::snapshot::Snapshot;
 /// What a pool is made with: its chunks, and the number of its thieves.
 #[derive(Drop)]
 pub struct Given {
+    /// No copy of the chunks: contracts alone speak of it.
     pub chunks: Snapshot<Vec<Chunk>>,
     pub thieves: u32,
 }

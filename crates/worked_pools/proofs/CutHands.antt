@@ -1,7 +1,7 @@
 -- Hands of which the first of some objects is cut off.
-use Rattle.std.proofs.Common.{◌≡◌, ℕ, ◌+◌, ◌<◌, ◌≤◌, List, [], ◌∷◌, length, slice_index, drop, sym, ap, ◌∙◌, subst, arith}
+use Rattle.std.proofs.Common.{◌≡◌, ℕ, ◌+◌, ◌<◌, List, [], ◌∷◌, length, slice_index, drop, sym, ap, ◌∙◌, subst, arith}
 use Rattle.std.proofs.lemmas.List.{drop_more}
-use Rattle.entry_base.specs.Lists.{AreIn, count_in, without_all, without_one}
+use Rattle.entry_base.specs.Lists.{AreIn, without_all, without_one}
 use Rattle.entry_base.proofs.Sums.{count_self, count_without}
 
 rest_in : (o : ℕ) (rest hands : List ℕ) → AreIn (o ∷ rest) hands → AreIn rest (without_one o hands)

@@ -4,7 +4,7 @@ ghost use Rattle.chunk_pool.specs.Thieves.{claims_of, IsThiefOf};
 ghost use Rattle.worked_pools.specs.Fresh.{IsFresh};
 
 use crate::chunks::eight_chunks;
-use crate::thieves::{drain_by_two, join_both};
+use crate::thieves::{drain_by_two, join_both, sent};
 use chunk_pool::{Pool, Thief};
 use entry_base::Chunk;
 use plain_table::OutOfMemory;
@@ -17,7 +17,8 @@ fn pop_thief(rt: &impl Abort, pool: &Pool, thieves: &mut Vec<Thief>) -> Thief
     ensures thieves { All (IsFresh pool.now) thieves.new.items }
     ensures thief { IsFresh pool.now result }
 {
-    let _count = pool;
+    // The contract alone speaks of the pool.
+    let _pool = pool;
     thieves.pop().expect(rt, "a thief")
 }
 
@@ -38,7 +39,8 @@ fn pool_of_two(
 
 #[test]
 fn an_empty_pool_answers_nothing(rt: HostRuntime) -> Result<(), OutOfMemory> {
-    let (pool, mut first, mut second) = pool_of_two(&rt, rt.alloc(), Vec::new(rt.alloc()))?;
+    let (pool, first, mut second) = pool_of_two(&rt, rt.alloc(), Vec::new(rt.alloc()))?;
+    let (pool, mut first) = sent(pool, first);
     assert!(rt; first.next(&pool).is_none());
     assert!(rt; second.next(&pool).is_none());
     assert!(rt; first.next(&pool).is_none());

@@ -1,6 +1,6 @@
-use Rattle.std.proofs.Common.{rules, ◌≡◌, All, ap, subst, arith}
+use Rattle.std.proofs.Common.{rules, All, ap, subst}
 use Rattle.std.proofs.lemmas.List.Elements.{All-push}
-use Rattle.entry_base.specs.Sessions.{view, IsChunkOf, IsOf}
+use Rattle.entry_base.specs.Sessions.{view, IsChunkOf}
 use Rattle.worked_pools.proofs.CutHands.{AreIn-cut}
 use Rattle.worked_pools.proofs.chunks.cut_each.Goals as goal
 
