@@ -19,14 +19,14 @@ parts v = v.joined
 abbrev pub ends : Claims → ℕ
 ends v = if v.ended then v.joined else 0
 
--- what a thief's claims say, where so many claims were made
+-- what a thief's claims say, in a pool of these chunks and of `made` thieves, after `claims` claims of all of them
 pub record Holds (chunks : List Chunk) (made : ℕ) (claims : ℕ) (v : Claims) : Type 0 where
   pub given : v.given ≡ chunks
   pub thieves : v.thieves ≡ made
   pub end : v.ended ≡ true → length chunks ≤ claims
   pub next : v.next ≤ claims
 
--- the rule, of a pool that was made with these chunks and so many thieves; the word is the number of claims
+-- the rule of a pool of these chunks and of `made` thieves; its word is the number of claims
 pub record Kept (chunks : List Chunk) (made : ℕ) (t : State (Option Chunk) Claims) : Type 0 where
   pub few : length chunks ≤ 512
   pub few_thieves : made ≤ 4
@@ -54,7 +54,7 @@ pub record Lost (m n : Me (Option Chunk) Claims) : Type 0 where
   pub after : n ≡ (with_end m.0, [])
   pub whole : IsWhole n.0 → TookEachOnce n.0
 
--- what each kind of step says
+-- what a thief learns by a claim, by giving a slot back and by a load
 abbrev pub claimed : Step (Option Chunk) → Me (Option Chunk) Claims → ℕ → Me (Option Chunk) Claims → Type 0
 claimed s m found n = (found < length m.0.given → Won m found n) × (length m.0.given ≤ found → Lost m n)
 

@@ -25,6 +25,7 @@ pub struct Pool {
 #[derive(Drop)]
 pub struct Thief {
     pub(crate) seat: Seat<Option<Chunk>, Claims>,
+    // It has seen the end.
     ended: bool,
     ghost tied: { ended ≡ seat.me.0.ended },
     ghost whole: { IsWhole seat.me.0 → TookEachOnce seat.me.0 },
