@@ -10,7 +10,7 @@ use Rattle.entry_base.specs.Lists.{total, count_in}
 use Rattle.entry_base.specs.declared.chunks.Chunk.{Chunk}
 use Rattle.entry_base.proofs.Sums.{total_set, total_append, among, views_set, count_append, count_self}
 use Rattle.chunk_pool.specs.declared.claims.Claims.{Claims}
-use Rattle.chunk_pool.specs.Claims.{first_claims, took, saw_end, giver, newcomer, both, spent, IsGiven, IsWhole, TookEachOnce}
+use Rattle.chunk_pool.specs.Claims.{first_claims, with_number, with_end, giver, newcomer, both, spent, IsGiven, IsWhole, TookEachOnce}
 use Rattle.chunk_pool.specs.Rule.{times, parts, ends, Holds, Kept, claimed, gave_back, learned}
 use Rattle.chunk_pool.specs.Thieves.{AreEmptied}
 use Rattle.chunk_pool.proofs.Given.{given_there, given_within}
@@ -76,7 +76,7 @@ module _ (given : List Chunk) (made : ℕ) (s : State (Option Chunk) Claims) (k 
   next = word_set s.words ((word + 1) % 2 ^ 64) k.one_word ∙ (let a = claims_bounded given made s k in let d = k.few in let e = k.few_thieves in omega arith)
 
   -- a thief that is all of them, where all is claimed
-  whole_took : length given ≤ word → IsWhole (saw_end v) → TookEachOnce v
+  whole_took : length given ≤ word → IsWhole (with_end v) → TookEachOnce v
   whole_took past is =
       let kn = k.known id v at alive in
       let long : length v.given ≡ length given = ap length kn.given in
@@ -88,9 +88,9 @@ module _ (given : List Chunk) (made : ℕ) (s : State (Option Chunk) Claims) (k 
 
   -- a claim below the end
   wins : (c : Out) → AreEmptied v c → v.ended ≡ false → (chunk : Chunk) → word < length given
-      → Kept given made (stepped s 0 ((word + 1) % 2 ^ 64) id c (took word v) (chain gives (takes word (Some chunk))))
+      → Kept given made (stepped s 0 ((word + 1) % 2 ^ 64) id c (with_number word v) (chain gives (takes word (Some chunk))))
   wins c out fresh chunk lt =
-      let w : Claims = took word v in
+      let w : Claims = with_number word v in
       let kn = k.known id v at alive in
       let after = next in
       let change : (j : ℕ) → total (times j) (set s.views id w) + times j v ≡ total (times j) s.views + times j w = λ j. total_set (times j) s.views id v w at in
@@ -119,9 +119,9 @@ module _ (given : List Chunk) (made : ℕ) (s : State (Option Chunk) Claims) (k 
 
   -- a claim past the end
   loses : (c : Out) → AreEmptied v c → v.ended ≡ false → length given ≤ word
-      → Kept given made (stepped s 0 ((word + 1) % 2 ^ 64) id c (saw_end v) gives)
+      → Kept given made (stepped s 0 ((word + 1) % 2 ^ 64) id c (with_end v) gives)
   loses c out fresh past =
-      let w : Claims = saw_end v in
+      let w : Claims = with_end v in
       let kn = k.known id v at alive in
       let after = next in
       let change : (j : ℕ) → total (times j) (set s.views id w) + times j v ≡ total (times j) s.views + times j w = λ j. total_set (times j) s.views id v w at in
@@ -186,26 +186,26 @@ claims given made slots id me alive fresh out s k sized at fits = go (nat_lt (sl
         let lt : n < length given = grind (arith, nat_tests) in
         let l = long in
         let y = given_there given n lt in (
-          took n v,
+          with_number n v,
           chain gives (takes n (Some y.0)),
           (tt, back given made s k id v at alive c out n (omega arith) ∙ k.home n y.0 (omega arith) y.1),
           wins given made s k id v at alive c out fresh y.0 lt,
           (
-            (λ _. record { later = kn.next; chunk = y.0; given = subst (λ (xs : List Chunk). IsGiven xs n y.0) (sym kn.given) y.1; after = λ i. (took n v, (n, Some y.0) ∷ empty i) }),
+            (λ _. record { later = kn.next; chunk = y.0; given = subst (λ (xs : List Chunk). IsGiven xs n y.0) (sym kn.given) y.1; after = λ i. (with_number n v, (n, Some y.0) ∷ empty i) }),
             λ le. absurd (omega arith),
           ),
         )
     go false e =
         let past : length given ≤ n = grind (arith, nat_tests) in
         let l = long in (
-          saw_end v,
+          with_end v,
           gives,
           tt,
           loses given made s k id v at alive c out fresh past,
           (
             (λ lt. absurd (omega arith)),
             λ _. record {
-              after = λ i. (saw_end v, empty i);
+              after = λ i. (with_end v, empty i);
               whole = λ is. let t = whole_took given made s k id v at alive past is in record { each = t.each; others = t.others };
             },
           ),

@@ -15,11 +15,11 @@ abbrev pub first_claims : List Chunk → ℕ → Claims
 first_claims given thieves = record { given = given; thieves = thieves; joined = thieves; taken = []; next = 0; ended = false }
 
 -- a claim below the end, and one that sees the end
-abbrev pub took : ℕ → Claims → Claims
-took k v = record v { taken = v.taken ++ k ∷ []; next = k + 1 }
+abbrev pub with_number : ℕ → Claims → Claims
+with_number k v = record v { taken = v.taken ++ k ∷ []; next = k + 1 }
 
-abbrev pub saw_end : Claims → Claims
-saw_end v = record v { ended = true }
+abbrev pub with_end : Claims → Claims
+with_end v = record v { ended = true }
 
 -- a thief parts with one of those that it is
 abbrev pub giver : Claims → Claims
@@ -46,7 +46,7 @@ pub record Took (v : Claims) (chunk : Chunk) (w : Claims) : Type 0 where
   pub later : v.next ≤ number
   pub within : number < length v.given
   pub given : IsGiven v.given number chunk
-  pub after : w ≡ took number v
+  pub after : w ≡ with_number number v
 
 -- each given chunk was taken once, and nothing else
 pub record TookEachOnce (v : Claims) : Type 0 where

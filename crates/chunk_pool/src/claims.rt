@@ -6,13 +6,14 @@ use std::collections::LinkedList;
 pub struct Claims {
     /// The chunks that the pool was made with. The number of a chunk is its place among them, from 0.
     pub given: LinkedList<Chunk>,
-    /// How many thieves were made with the pool, from 1 to 4, and how many of them it is: itself and those joined into it.
+    /// How many thieves were made with the pool, from 1 to 4.
     pub thieves: u32,
+    /// How many of these it is: itself and those joined into it.
     pub joined: u32,
-    /// The numbers of the chunks that it took, and that those joined into it took.
+    /// The numbers of the chunks that it took, or one joined into it.
     pub taken: LinkedList<u64>,
     /// No claim that it makes from now on gives a number below this one.
     pub next: u64,
-    /// A claim gave it, or one joined into it, the number of chunks or more: every chunk has been claimed.
+    /// It has seen the end, or one joined into it has: a claim gave the number of chunks or more, so every chunk was claimed.
     pub ended: bool,
 }

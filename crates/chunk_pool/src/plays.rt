@@ -1,4 +1,5 @@
-// The rule as `atomic_table` takes it, and the kinds of step.
+// The rule as `atomic_table` takes it, and the kinds of step: a claim, after which the slot is exchanged, a split, and a join,
+// which has a load before it and one after it.
 use crate::claims::Claims;
 use atomic_table::{Join, Play, Split, TableRule};
 use entry_base::Chunk;
@@ -7,6 +8,7 @@ use std::snapshot::Snapshot;
 /// What a pool is made with: its chunks, and the number of its thieves.
 #[derive(Drop)]
 pub struct Given {
+    /// No copy of the chunks: contracts alone speak of it.
     pub chunks: Snapshot<Vec<Chunk>>,
     pub thieves: u32,
 }

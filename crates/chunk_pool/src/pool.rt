@@ -20,15 +20,18 @@ pub struct Pool {
     ghost counted: { count ≡ table.shared.table_id.slots },
 }
 
-/// One thread's right to claim chunks of a pool. Its claims are `claims_of` of `specs/Thieves.antt`. It is no copy of another.
+/// One thread's right to claim chunks of a pool. What it has claimed is `claims_of` of `specs/Thieves.antt`. It is no copy of
+/// another, and a thread may take it.
 #[derive(Drop)]
 pub struct Thief {
     pub(crate) seat: Seat<Option<Chunk>, Claims>,
+    // It has seen the end.
     ended: bool,
     ghost tied: { ended ≡ seat.me.0.ended },
     ghost whole: { IsWhole seat.me.0 → TookEachOnce seat.me.0 },
 }
 
+// The chunks, each in a slot.
 fn slots_of(alloc: Global, chunks: Vec<Chunk>) -> Result<Vec<Option<Chunk>>, AllocError>
     ensures { IfOk result (λ slots. slots.items ≡ map Some chunks.items) }
 {
@@ -75,7 +78,7 @@ impl Pool {
         }
     }
 
-    // Parts the first thief into all of them.
+    // Parts the first thief, which is all of them, into as many.
     fn parts_of(&self, alloc: Global, first: Thief, thieves: u32) -> Result<Vec<Thief>, AllocError>
         requires thief { IsThiefOf self.now first }
         requires thieves { (1 ≤ thieves) × (thieves ≤ 4) }
@@ -96,7 +99,7 @@ impl Pool {
 impl Thief {
     ghost use Rattle.std.specs.Prelude.{◌≤◌, IfNone, IfSome, None, false, true};
     ghost use mathlib.Core.Logic.{◌↔◌};
-    ghost use Rattle.chunk_pool.specs.Claims.{both, giver, newcomer, saw_end, Took};
+    ghost use Rattle.chunk_pool.specs.Claims.{both, giver, newcomer, with_end, Took};
     ghost use Rattle.chunk_pool.specs.Thieves.{claims_of, IsThiefOf};
 
     // Parts with one of the thieves that it is.
@@ -112,17 +115,18 @@ impl Thief {
         Thief { seat, ended: false }
     }
 
-    /// Claims the next number and takes the chunk that was given with it, or sees the end, where the claim gave the number of
-    /// chunks or more. A thief that has seen the end makes no claim: it answers None, and its claims stay.
+    /// Claims the next number and takes the very chunk that was given with it (`Took` of `specs/Claims.antt`). It answers None
+    /// exactly where the thief has then seen the end: the claim gave the number of chunks or more, or it had seen the end before,
+    /// and then it makes no claim and nothing changes.
     pub fn next(&mut self, pool: &Pool) -> Option<Chunk>
         requires thief { IsThiefOf pool.now self.old }
         ensures thief { IsThiefOf pool.now self.new }
         ensures took { IfSome result (λ chunk. Took (claims_of self.old) chunk (claims_of self.new)) }
-        ensures end { IfNone result (claims_of self.new ≡ saw_end (claims_of self.old)) }
+        ensures end { IfNone result (claims_of self.new ≡ with_end (claims_of self.old)) }
         ensures idle { (claims_of self.old).ended ≡ true → (result ≡ None) × (claims_of self.new ≡ claims_of self.old) }
         ensures exact { (result ≡ None) ↔ ((claims_of self.new).ended ≡ true) }
 
-        // So a thief that is all of them took each chunk once.
+        // A thief that is all of them and has seen the end took each chunk once.
         ensures whole { IsWhole (claims_of self.new) → TookEachOnce (claims_of self.new) }
     {
         if self.ended {
@@ -142,16 +146,18 @@ impl Thief {
         }
     }
 
-    /// Takes in another thief of the same pool, with the numbers that it took. It has seen the end where one of them had.
+    /// Takes in another thief of the same pool, with the numbers of the chunks that it took. This one has then seen the end
+    /// exactly where one of them had (`both` of `specs/Claims.antt`).
     pub fn join(&mut self, pool: &Pool, other: Thief)
         requires thieves { IsThiefOf pool.now self.old × IsThiefOf pool.now other }
         ensures thief { IsThiefOf pool.now self.new }
         ensures joined { claims_of self.new ≡ both (claims_of self.old) (claims_of other) }
 
-        // Where all thieves were joined into one that has seen the end, it took each chunk once.
+        // Where all thieves were joined into one that has seen the end, it took each given chunk once.
         ensures whole { IsWhole (claims_of self.new) → TookEachOnce (claims_of self.new) }
     {
         let Thief { mut seat, ended } = other;
+        // The slot of the last chunk that it took is still out with it.
         pool.table.shared.load::<GivesBack>(&mut seat, 0);
         pool.table.shared.join_seat::<TakesIn>(&mut self.seat, seat);
         pool.table.shared.load::<Learns>(&mut self.seat, 0);

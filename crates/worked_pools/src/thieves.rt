@@ -56,3 +56,10 @@ pub(crate) fn drain_by_two<R: Threads + Sync>(
     );
     (join_both(pool, first, second), here, there)
 }
+
+/// A pool that goes to another thread, and one of its thieves: both are `Send`, and the pool is `Sync`.
+pub(crate) fn sent<P: Send + Sync, T: Send>(pool: P, thief: T) -> (P, T)
+    ensures { result ≡ (pool, thief) }
+{
+    (pool, thief)
+}

@@ -3,7 +3,7 @@ use Rattle.entry_base.specs.declared.chunks.Chunk.{Chunk}
 use Rattle.entry_base.specs.Lists.{count_in}
 use Rattle.atomic_table.specs.Table.{Me, rest}
 use Rattle.chunk_pool.specs.declared.claims.Claims.{Claims}
-use Rattle.chunk_pool.specs.Claims.{took}
+use Rattle.chunk_pool.specs.Claims.{with_number}
 use Rattle.chunk_pool.proofs.Keeps.{claims, count_last}
 use Rattle.chunk_pool.proofs.pool.Thief.next.Goals as goal
 
@@ -29,7 +29,7 @@ returns-then-number-pool-clause-thief c =
     let n : ℕ = c.fetch_add-number.result in
     let v : Claims = c.args.self.now.seat.me.0 in
     let won = e.2.0 (let a = t.slots in let b = c.args.pool.now.counted in let d = c.if-number-pool.true in omega arith) in
-    let is : c.exchange.new.seat.me.0 ≡ took n v = ap (λ (m : Me (Option Chunk) Claims). m.0) x.3 ∙ ap (λ (m : Me (Option Chunk) Claims). m.0) won.after in
+    let is : c.exchange.new.seat.me.0 ≡ with_number n v = ap (λ (m : Me (Option Chunk) Claims). m.0) x.3 ∙ ap (λ (m : Me (Option Chunk) Claims). m.0) won.after in
     record {
       table = x.0 ∙ (e.0 ∙ t.table);
       slots = t.slots ∙ ap (λ (w : Claims). length w.given) (sym is);
