@@ -21,16 +21,17 @@ pub(crate) fn word_at(rt: &impl Abort, image: &Image, place: usize) -> u64
     image.words[place]
 }
 
-/// The words at a place of an image before a phase and of one after it, which both have it.
-pub(crate) fn change_at(
+/// Asserts that the word at a place was `was` in the image before a phase, and is `is` in the one after it.
+pub(crate) fn assert_change(
     rt: &impl Abort,
     before: &Image,
     after: &Image,
     place: usize,
-) -> (u64, u64)
-    ensures { (result.0 ≡ slice_index before.now.words.items place) × (result.1 ≡ slice_index after.now.words.items place) }
-{
-    (word_at(rt, before, place), word_at(rt, after, place))
+    was: u64,
+    is: u64,
+) {
+    assert_eq!(rt; word_at(rt, before, place), was);
+    assert_eq!(rt; word_at(rt, after, place), is);
 }
 
 /// Closes a table by a session that has the numbers of the first one.

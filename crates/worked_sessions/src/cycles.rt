@@ -43,7 +43,9 @@ fn begin_on(
     policy: Policy,
 ) -> Result<Image, OutOfMemory>
     requires lawful { IsLawful (image_of image) }
+    requires small { AreSmall (sizes_of image.shape) }
     ensures lawful { IfOk result (λ image. IsLawful (image_of image)) }
+    ensures small { IfOk result (λ image. AreSmall (sizes_of image.shape)) }
     ensures shape { IfOk result (λ image. image.shape ≡ SHAPE) }
 {
     let shape = image.shape;
@@ -57,6 +59,7 @@ fn begin_on(
 /// The image with object 0 in a cycle with no area: the object is the root.
 pub(crate) fn image_in_a_cycle(rt: &impl Abort, alloc: Global) -> Result<Image, OutOfMemory>
     ensures lawful { IfOk result (λ image. IsLawful (image_of image)) }
+    ensures small { IfOk result (λ image. AreSmall (sizes_of image.shape)) }
     ensures shape { IfOk result (λ image. image.shape ≡ SHAPE) }
 {
     let image = image_with_an_object(rt, alloc)?;
@@ -142,6 +145,7 @@ pub(crate) fn image_to_mark<L: Ledger>(
     requires parts { blank.parts ≡ L.parts }
     requires one { blank.parts ≡ 1 }
     ensures lawful { IfOk result (λ image. IsLawful (image_of image)) }
+    ensures small { IfOk result (λ image. AreSmall (sizes_of image.shape)) }
     ensures shape { IfOk result (λ image. image.shape ≡ SHAPE) }
 {
     let (shared, mut first) = open_fresh(alloc, SHAPE)?;
@@ -181,7 +185,9 @@ fn take_and_commit<L: Ledger>(
 /// A whole cycle with no area on an image of `SHAPE` outside a cycle, which frees what was taken and not filled.
 fn sweep_over(rt: &impl Abort, alloc: Global, mut image: Image) -> Result<Image, OutOfMemory>
     requires lawful { IsLawful (image_of image) }
+    requires small { AreSmall (sizes_of image.shape) }
     ensures lawful { IfOk result (λ image. IsLawful (image_of image)) }
+    ensures small { IfOk result (λ image. AreSmall (sizes_of image.shape)) }
 {
     let shape = image.shape;
     assert!(rt; shape.seg == 4 && shape.ext == 2 && shape.tru == 1 && shape.objects == 4);
@@ -207,6 +213,7 @@ pub(crate) fn image_to_move<L: Ledger>(
     requires parts { blank.parts ≡ L.parts }
     requires one { blank.parts ≡ 1 }
     ensures lawful { IfOk result (λ image. IsLawful (image_of image)) }
+    ensures small { IfOk result (λ image. AreSmall (sizes_of image.shape)) }
     ensures shape { IfOk result (λ image. image.shape ≡ SHAPE) }
 {
     let (shared, mut first) = open_fresh(alloc, SHAPE)?;

@@ -7,7 +7,7 @@ ghost use Rattle.entry_base.specs.Openings.{phase_of, sizes_in, start_of};
 ghost use Rattle.entry_base.specs.Owns.{IsHeld};
 ghost use Rattle.entry_base.specs.Sessions.{view, IsOf};
 
-use crate::closings::{change_at, close_both};
+use crate::closings::{assert_change, close_both};
 use crate::fillings::{make_next, put_next};
 use crate::openings::{SHAPE, open_fresh};
 use entry_base::{Session, Shared};
@@ -58,6 +58,25 @@ fn field_word(rt: &impl Abort, shared: &Shared, s: &mut Session, f: u32) -> u64
     name_external(shared, s, f)
 }
 
+/// Binds two cells to the empty external field 0 of object 0, the second one in vain. The field is named before and between.
+fn bind_both<L: Ledger>(rt: &impl Abort, shared: &Shared, s: &mut Session, steps: &mut Steps<L>)
+    requires caller { IsOf shared.now s.old }
+    requires mutator { (view s.old).number < 8 }
+    requires no_area { start_of (view s.old).opening ≡ None }
+    ensures caller { IsOf shared.now s.new }
+    ensures same { SameCaller (view s.old) (view s.new) }
+    ensures ticked { steps.new ≡ steps.old + 2 }
+{
+    let empty = field_word(rt, shared, s, 0);
+    let won = bind_next(rt, shared, s, 0x3_0000_0001, 2, 0xc0, steps);
+    let bound = field_word(rt, shared, s, 0);
+    let taken = bind_next(rt, shared, s, 0x2_0000_0002, 3, 0xd0, steps);
+    assert_eq!(rt; empty, 0);
+    assert_eq!(rt; won, 0);
+    assert_eq!(rt; bound, 0x1_0000);
+    assert_eq!(rt; taken, 0x1_0000);
+}
+
 fn bind_twice<L: Ledger>(rt: &impl Abort, alloc: Global, blank: Blank) -> Result<(), OutOfMemory>
     requires name { blank.name ≡ L.name }
     requires parts { blank.parts ≡ L.parts }
@@ -69,18 +88,11 @@ fn bind_twice<L: Ledger>(rt: &impl Abort, alloc: Global, blank: Blank) -> Result
     assert_eq!(rt; one.area(), None);
     let mut steps = Steps::<L>::start(blank);
     make_next(rt, &shared, &mut one, 0, 0);
-    let empty = field_word(rt, &shared, &mut one, 0);
-    let won = bind_next(rt, &shared, &mut one, 0x3_0000_0001, 2, 0xc0, &mut steps);
-    let bound = field_word(rt, &shared, &mut one, 0);
-    let taken = bind_next(rt, &shared, &mut one, 0x2_0000_0002, 3, 0xd0, &mut steps);
+    bind_both(rt, &shared, &mut one, &mut steps);
     let after = close_both(shared, first, one);
-    assert_eq!(rt; empty, 0);
-    assert_eq!(rt; won, 0);
-    assert_eq!(rt; bound, 0x1_0000);
-    assert_eq!(rt; taken, 0x1_0000);
-    assert_eq!(rt; change_at(rt, &before, &after, 37), (0, 0x1_0000));
-    assert_eq!(rt; change_at(rt, &before, &after, 65), ((1 << 56) + 2, 0x400f_0000_0000_00c0));
-    assert_eq!(rt; change_at(rt, &before, &after, 66), ((1 << 56) + 3, 0x400f_0000_0000_00d0));
+    assert_change(rt, &before, &after, 37, 0, 0x1_0000);
+    assert_change(rt, &before, &after, 65, (1 << 56) + 2, 0x400f_0000_0000_00c0);
+    assert_change(rt, &before, &after, 66, (1 << 56) + 3, 0x400f_0000_0000_00d0);
     Ok(())
 }
 
@@ -89,20 +101,57 @@ fn an_external_field_is_bound_once(rt: HostRuntime) -> Result<(), OutOfMemory> {
     bind_twice::<Brand>(&rt, rt.alloc(), Blank::new(1))
 }
 
+/// Forges a word into external field 1 of object 0, which variable 0 holds. The field is named before and after.
+fn forge_second(rt: &impl Abort, shared: &Shared, s: &mut Session)
+    requires caller { IsOf shared.now s.old }
+    requires mutator { (view s.old).number < 8 }
+    ensures caller { IsOf shared.now s.new }
+    ensures same { SameCaller (view s.old) (view s.new) }
+{
+    let before = field_word(rt, shared, s, 1);
+    assert_eq!(rt; before, 0);
+    assert_eq!(rt; s.held(0), Some(0));
+    forge_step(shared, s, 1, 0xffff_0007);
+    let after = field_word(rt, shared, s, 1);
+    assert_eq!(rt; after, 0xffff_0007);
+}
+
 #[test]
 fn any_word_is_forged_into_an_external_field(rt: HostRuntime) -> Result<(), OutOfMemory> {
     let before = Image::fresh(rt.alloc(), SHAPE)?;
     let (shared, mut first) = open_fresh(rt.alloc(), SHAPE)?;
     let mut one = first.split(&shared, 0, &[]);
     make_next(&rt, &shared, &mut one, 0, 0);
-    assert_eq!(rt; field_word(&rt, &shared, &mut one, 1), 0);
-    assert_eq!(rt; one.held(0), Some(0));
-    forge_step(&shared, &mut one, 1, 0xffff_0007);
-    assert_eq!(rt; field_word(&rt, &shared, &mut one, 1), 0xffff_0007);
+    forge_second(&rt, &shared, &mut one);
     let after = close_both(shared, first, one);
-    assert_eq!(rt; change_at(&rt, &before, &after, 38), (0, 0xffff_0007));
-    assert_eq!(rt; change_at(&rt, &before, &after, 37), (0, 0));
+    assert_change(&rt, &before, &after, 38, 0, 0xffff_0007);
+    assert_change(&rt, &before, &after, 37, 0, 0);
     Ok(())
+}
+
+/// Gets a global into a variable. The answer is the global's word.
+fn global_word(shared: &Shared, s: &mut Session, into: u32, g: u32) -> u64
+    requires caller { IsOf shared.now s.old }
+    requires mutator { (view s.old).number < 8 }
+    requires variable { into < 16 }
+    requires few { g < 16 }
+    ensures caller { IsOf shared.now s.new }
+    ensures same { SameCaller (view s.old) (view s.new) }
+{
+    get_global(shared, s, into, g)
+}
+
+/// Links global 3 to object 0, which variable 0 holds, and global 4 too, which is then made to hold nothing.
+fn link_globals(rt: &impl Abort, shared: &Shared, s: &mut Session)
+    requires caller { IsOf shared.now s.old }
+    requires mutator { (view s.old).number < 8 }
+    ensures caller { IsOf shared.now s.new }
+    ensures same { SameCaller (view s.old) (view s.new) }
+{
+    assert_eq!(rt; s.held(0), Some(0));
+    link_global(shared, s, 3, Some(0), 1);
+    link_global(shared, s, 4, Some(0), 1);
+    link_global(shared, s, 4, None, 0);
 }
 
 #[test]
@@ -113,20 +162,35 @@ fn a_global_that_holds_nothing_is_got_linked_and_emptied(
     let (shared, mut first) = open_fresh(rt.alloc(), SHAPE)?;
     let mut one = first.split(&shared, 0, &[]);
     make_next(&rt, &shared, &mut one, 0, 0);
-    assert_eq!(rt; get_global(&shared, &mut one, 1, 3), 0);
+    assert_eq!(rt; global_word(&shared, &mut one, 1, 3), 0);
     assert_eq!(rt; one.held(1), None);
-    assert_eq!(rt; one.held(0), Some(0));
-    link_global(&shared, &mut one, 3, Some(0), 1);
-    link_global(&shared, &mut one, 4, Some(0), 1);
-    link_global(&shared, &mut one, 4, None, 0);
-    assert_eq!(rt; get_global(&shared, &mut one, 1, 3), 1);
-    assert_eq!(rt; get_global(&shared, &mut one, 2, 4), 0);
+    link_globals(&rt, &shared, &mut one);
+    assert_eq!(rt; global_word(&shared, &mut one, 1, 3), 1);
+    assert_eq!(rt; global_word(&shared, &mut one, 2, 4), 0);
     assert_eq!(rt; one.held(1), Some(0));
     assert_eq!(rt; one.held(2), None);
     let after = close_both(shared, first, one);
-    assert_eq!(rt; change_at(&rt, &before, &after, 19), (0, 1));
-    assert_eq!(rt; change_at(&rt, &before, &after, 20), (0, 0));
+    assert_change(&rt, &before, &after, 19, 0, 1);
+    assert_change(&rt, &before, &after, 20, 0, 0);
     Ok(())
+}
+
+/// Gets an empty reference of object 0, which variable 0 holds, links it and another one to the object, and empties that one.
+fn link_references(rt: &impl Abort, shared: &Shared, s: &mut Session)
+    requires caller { IsOf shared.now s.old }
+    requires mutator { (view s.old).number < 8 }
+    requires outside { phase_of (view s.old).opening ≡ 0 }
+    ensures caller { IsOf shared.now s.new }
+    ensures same { SameCaller (view s.old) (view s.new) }
+{
+    assert_eq!(rt; s.held(0), Some(0));
+    let empty = get_reference(shared, s, 1, 0, 2);
+    assert_eq!(rt; empty, 0);
+    assert_eq!(rt; s.held(1), None);
+    assert_eq!(rt; s.held(0), Some(0));
+    link_reference(shared, s, 0, 2, Some(0), 1);
+    link_reference(shared, s, 0, 3, Some(0), 1);
+    link_reference(shared, s, 0, 3, None, 0);
 }
 
 #[test]
@@ -138,15 +202,9 @@ fn a_reference_that_holds_nothing_is_got_linked_and_emptied(
     let mut one = first.split(&shared, 0, &[]);
     assert_eq!(rt; one.in_cycle(), false);
     make_next(&rt, &shared, &mut one, 0, 0);
-    assert_eq!(rt; one.held(0), Some(0));
-    assert_eq!(rt; get_reference(&shared, &mut one, 1, 0, 2), 0);
-    assert_eq!(rt; one.held(1), None);
-    assert_eq!(rt; one.held(0), Some(0));
-    link_reference(&shared, &mut one, 0, 2, Some(0), 1);
-    link_reference(&shared, &mut one, 0, 3, Some(0), 1);
-    link_reference(&shared, &mut one, 0, 3, None, 0);
+    link_references(&rt, &shared, &mut one);
     let after = close_both(shared, first, one);
-    assert_eq!(rt; change_at(&rt, &before, &after, 35), (0, 1));
-    assert_eq!(rt; change_at(&rt, &before, &after, 36), (0, 0));
+    assert_change(&rt, &before, &after, 35, 0, 1);
+    assert_change(&rt, &before, &after, 36, 0, 0);
     Ok(())
 }

@@ -143,13 +143,27 @@ fn a_second_object_finds_the_heap_full(rt: HostRuntime) -> Result<(), OutOfMemor
     Ok(())
 }
 
+/// Makes an object by the count, and tries to make another one by the same count.
+fn new_twice(rt: &impl Abort, shared: &Shared, s: &mut Session)
+    requires caller { IsOf shared.now s.old }
+    requires mutator { (view s.old).number < 8 }
+    requires shape { (view s.old).opening.shape ≡ SHAPE }
+    ensures caller { IsOf shared.now s.new }
+    ensures same { SameCaller (view s.old) (view s.new) }
+{
+    let count = load_count_for_new(shared, s, 0);
+    assert_eq!(rt; count, 0);
+    let won = new_step(shared, s, 0, 0);
+    let missed = new_step(shared, s, 1, 0);
+    assert_eq!(rt; won, 0);
+    assert_eq!(rt; missed, 1);
+}
+
 #[test]
 fn a_new_object_by_an_old_count_misses(rt: HostRuntime) -> Result<(), OutOfMemory> {
     let (shared, mut first) = open_fresh(rt.alloc(), SHAPE)?;
     let mut one = first.split(&shared, 0, &[]);
-    assert_eq!(rt; load_count_for_new(&shared, &mut one, 0), 0);
-    assert_eq!(rt; new_step(&shared, &mut one, 0, 0), 0);
-    assert_eq!(rt; new_step(&shared, &mut one, 1, 0), 1);
+    new_twice(&rt, &shared, &mut one);
     assert_eq!(rt; one.held(0), Some(0));
     assert_eq!(rt; one.held(1), None);
     let after = close_both(shared, first, one);

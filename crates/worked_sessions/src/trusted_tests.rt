@@ -7,7 +7,7 @@ ghost use Rattle.entry_base.specs.Openings.{phase_of, sizes_in, start_of};
 ghost use Rattle.entry_base.specs.Owns.{IsHeld};
 ghost use Rattle.entry_base.specs.Sessions.{view, IsOf};
 
-use crate::closings::{change_at, close_both};
+use crate::closings::{assert_change, close_both};
 use crate::fillings::{make_next, put_hidden};
 use crate::openings::{SHAPE, open_fresh};
 use entry_base::{Session, Shared};
@@ -108,8 +108,8 @@ fn give_ticket<L: Ledger>(rt: &impl Abort, alloc: Global, blank: Blank) -> Resul
     assert_eq!(rt; given, Some(1));
     assert_eq!(rt; hidden, 0x480f_0000_0000_00c0);
     assert_eq!(rt; after.pending.as_slice()[0], Some(FIRST));
-    assert_eq!(rt; change_at(rt, &before, &after, 39), (0, 0x1_0000));
-    assert_eq!(rt; change_at(rt, &before, &after, 73), ((1 << 56) + 2, 0x480f_0000_0000_00c0));
+    assert_change(rt, &before, &after, 39, 0, 0x1_0000);
+    assert_change(rt, &before, &after, 73, (1 << 56) + 2, 0x480f_0000_0000_00c0);
     Ok(())
 }
 
@@ -139,8 +139,8 @@ fn publish_and_miss<L: Ledger>(
     assert_eq!(rt; taken, 0x1_0000);
     assert_eq!(rt; none, None);
     assert_eq!(rt; bound, 0x1_0000);
-    assert_eq!(rt; change_at(rt, &before, &after, 73), ((1 << 56) + 2, 0x400f_0000_0000_00c0));
-    assert_eq!(rt; change_at(rt, &before, &after, 74), ((1 << 56) + 3, 0x480f_0000_0000_00d0));
+    assert_change(rt, &before, &after, 73, (1 << 56) + 2, 0x400f_0000_0000_00c0);
+    assert_change(rt, &before, &after, 74, (1 << 56) + 3, 0x480f_0000_0000_00d0);
     Ok(())
 }
 
@@ -183,8 +183,8 @@ fn share_twice<L: Ledger>(rt: &impl Abort, alloc: Global, blank: Blank) -> Resul
     assert_eq!(rt; shared_now, 0);
     assert_eq!(rt; bound, 0x1_0000);
     assert_eq!(rt; taken, 0x1_0000);
-    assert_eq!(rt; change_at(rt, &before, &after, 39), (0, 0x1_0000));
-    assert_eq!(rt; change_at(rt, &before, &after, 47), (0, 0x1_0000));
+    assert_change(rt, &before, &after, 39, 0, 0x1_0000);
+    assert_change(rt, &before, &after, 47, 0, 0x1_0000);
     Ok(())
 }
 
