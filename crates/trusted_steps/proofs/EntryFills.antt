@@ -1,5 +1,5 @@
 -- The events of a new trusted entry, and the ticket that they leave.
-use Rattle.std.proofs.Common.{◌≡◌, ◌≢◌, ◌⊎◌, ℕ, ◌<◌, ◌==◌, ◌&&◌, if◌then◌else◌, Bool, true, false, List, [], ◌∷◌, ◌++◌, Option, Some, None, length, slice_set, refl, sym, ap, subst, ◌∙◌, inl, inr, arith}
+use Rattle.std.proofs.Common.{◌≡◌, ◌⊎◌, ℕ, ◌<◌, ◌==◌, ◌&&◌, if◌then◌else◌, Bool, true, false, List, [], ◌∷◌, Option, Some, None, length, slice_set, refl, sym, ap, subst, ◌∙◌, inl, inr, arith}
 use Rattle.std.proofs.lemmas.Bool.Decides.{nat_tests}
 use Rattle.plain_table.specs.declared.events.Act.TheVariants as act
 use Rattle.plain_table.specs.declared.events.Event.{Event}
@@ -15,7 +15,7 @@ use Rattle.entry_base.specs.declared.view.Claim.{Claim}
 use Rattle.entry_base.specs.declared.view.View.{View}
 use Rattle.entry_base.specs.Callers.{event_of}
 use Rattle.entry_base.specs.Numbers.{HasNumber}
-use Rattle.entry_base.specs.Owns.{claim_of, without_claim}
+use Rattle.entry_base.specs.Owns.{without_claim}
 use Rattle.entry_base.specs.Sessions.{held_in, ticket_in}
 use Rattle.entry_rule.specs.Entries.{PutTrusted}
 use Rattle.object_rule.specs.Fields.{BoundTrusted, bind_reply}
@@ -25,7 +25,7 @@ use Rattle.call_base.proofs.OneEvent.{called_once, ends_once, made_still}
 use Rattle.access_steps.proofs.NewBindings.{bind_reply-free, bind_reply-taken}
 use Rattle.space_steps.specs.declared.tickets.Ticket.{Ticket}
 use Rattle.space_steps.specs.Tickets.{OwesIndex}
-use Rattle.trusted_steps.specs.Fills.{BindsNew, FillsNew, HasTicketAfter, LeavesAllButTicket, fill_events}
+use Rattle.trusted_steps.specs.Fills.{BindsNew, FillsNew, LeavesAllButTicket, fill_events}
 use Rattle.trusted_steps.proofs.TrustedCalls.{made_tickets, ticket_in-set, with_none, with_some}
 
 -- a claim that was added is the one that is taken off
@@ -118,32 +118,6 @@ module _ (u v w : View) (o tag value : ℕ) (said : Reply) (t : Ticket) (mutator
           ∙ (sym none ∙ pends_stay u w called_all.same (taken.2 ∙ owes.rest.1)))
     ];
   }
-
-  pub HasTicketAfter-bound : HasTicketAfter u tag value said w
-  HasTicketAfter-bound = elim binds.ticket [
-    | inl ok ↦ inl (ok.0, t.index, pending_then _ ok.1)
-    | inr taken ↦ inr ((λ ok. absurd (let a = taken.1 in cc)), taken.2 ∙ owes.rest.1)
-  ]
-
-  pub LeavesAllButTicket-bound : LeavesAllButTicket u w
-  LeavesAllButTicket-bound = record {
-    vars = binds.rest.0 ∙ owes.rest.0;
-    owed = binds.owed ∙ (ap (without_claim v.number Trusted t.index) owes.owed
-        ∙ (ap (λ n. without_claim n Trusted t.index (claim_of u Trusted t.index ∷ u.owed)) took.same.number
-        ∙ (without_claim-same u.number t.index u.owed ∙ owes.fresh_claim)));
-    fresh = binds.fresh ∙ owes.rest.2;
-    hands = binds.rest.1 ∙ owes.rest.3;
-  }
-
-pub FillsNew-full : (u w : View) (o tag value : ℕ) → ticket_in u ≡ None → w.pending ≡ u.pending → Called u (event_of u (act.Take Trusted) reply.Full ∷ []) w
-    → EndsWith (event_of u (act.Take Trusted) reply.Full ∷ []) w.seen → FillsNew u o tag value reply.Full w
-FillsNew-full u w o tag value none pending called ends = record {
-  own = event_of u (act.Take Trusted) reply.Full ∷ [];
-  called = called;
-  ends = ends;
-  shape = inl (refl, refl);
-  ticket = ap with_ticket (sym none ∙ pends_stay u w called.same pending);
-}
 
 held_after-fills : (b o tag value : ℕ) (said : Reply) (events : List Event) → IsTNew b None (field.Trusted o) tag value said events → (held : Held) → held_after held events ≡ held
 held_after-fills b o tag value said events shape held = elim shape [

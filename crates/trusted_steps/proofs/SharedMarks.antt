@@ -1,5 +1,5 @@
 -- The mark of a trusted cell that is to be shared, and the events of a share.
-use Rattle.std.proofs.Common.{◌≡◌, ◌≢◌, ◌⊎◌, ℕ, zero, suc, ◌/◌, ◌%◌, ◌^◌, ◌<◌, ◌==◌, if◌then◌else◌, Bool, true, false, List, [], ◌∷◌, ◌++◌, Option, Some, None, option_map, IsSome, IsTrue, refl, sym, ap, subst, ◌∙◌, inl, inr, arith}
+use Rattle.std.proofs.Common.{◌≡◌, ◌≢◌, ℕ, zero, suc, ◌/◌, ◌%◌, ◌^◌, ◌<◌, ◌==◌, if◌then◌else◌, Bool, true, false, List, [], ◌∷◌, ◌++◌, Option, Some, None, option_map, IsSome, IsTrue, refl, sym, ap, subst, ◌∙◌, inl, inr, arith}
 use Rattle.std.proofs.lemmas.Bool.Decides.{nat_tests}
 use Rattle.plain_table.specs.declared.events.Act.TheVariants as act
 use Rattle.plain_table.specs.declared.events.Cell.{Cell}
@@ -13,7 +13,7 @@ use Rattle.plain_table.specs.Cycle.{Cycle}
 use Rattle.plain_table.specs.Finish.{id_at}
 use Rattle.plain_table.specs.History.{after}
 use Rattle.plain_table.specs.Index.{index_of}
-use Rattle.plain_table.specs.Shapes.{Held, OwnTicket, IsShare, WithObject, event, held_after, mark_before, own_after, with_ticket}
+use Rattle.plain_table.specs.Shapes.{Held, IsShare, WithObject, event, held_after, mark_before, own_after, with_ticket}
 use Rattle.plain_table.specs.Table.{Table, limit_in}
 use Rattle.plain_table.specs.Words.{phase_word}
 use Rattle.plain_table.proofs.Options.{IsSome-none}
@@ -32,7 +32,7 @@ use Rattle.entry_base.specs.Sessions.{held_in, ticket_in}
 use Rattle.entry_base.proofs.Sums.{each_has}
 use Rattle.mark_rule.specs.Marking.{EntryLoaded, MarkLoaded, Marked}
 use Rattle.object_rule.specs.Fields.{BoundShared, NamedTrusted, bind_reply}
-use Rattle.call_base.specs.Called.{Called, EndsWith, LeavesOwn, Made, Suits}
+use Rattle.call_base.specs.Called.{Called, LeavesOwn, Made}
 use Rattle.call_base.proofs.CallsInOrder.{EndsWith-last, called_looks, called_then, pends_stay}
 use Rattle.call_base.proofs.OneEvent.{called_once, ends_once, made_still}
 use Rattle.space_steps.proofs.TakeTurns.{own_number}
@@ -110,16 +110,9 @@ mark_for-before b word phase None is = mark_for-none b phase word (sym is)
 mark_for-before b word phase (Some c) is = mark_for-cycle b phase word (sym is)
 
 -- what the word of a trusted field that is not 0 tells
-pub named_settled : (v w : View) (o found : ℕ) → NamedTrusted v o found w → (found ≡ 0 → ⊥) → Has w.facts (fact.Settled (index_of found))
+named_settled : (v w : View) (o found : ℕ) → NamedTrusted v o found w → (found ≡ 0 → ⊥) → Has w.facts (fact.Settled (index_of found))
 named_settled v w o zero n some = absurd (some refl)
 named_settled v w o (suc m) n some = subst (λ l. Has l (fact.Settled (index_of (suc m)))) (sym n.facts) (inl refl)
-
-pub named_touched : (v w : View) (o found : ℕ) → NamedTrusted v o found w → (found ≡ 0 → ⊥) → phase_of v.opening ≢ 0 → Has w.facts (fact.Touched (field.Trusted o) found)
-named_touched v w o zero n some in_cycle = absurd (some refl)
-named_touched v w o (suc m) n some in_cycle =
-    let t : (phase_of v.opening == 0) ≡ false = grind (arith, nat_tests) in
-    subst (λ l. Has l (fact.Touched (field.Trusted o) (suc m))) (sym n.facts)
-    (subst (λ (b : Bool). Has ((fact.Settled (index_of (suc m)) ∷ (if b then [] else fact.Touched (field.Trusted o) (suc m) ∷ [])) ++ v.facts) (fact.Touched (field.Trusted o) (suc m))) (sym t) (inr (inl refl)))
 
 pub named_inside : (v w : View) (o found : ℕ) → NamedTrusted v o found w → (found ≡ 0 → ⊥) → index_of found < limit_in (sizes_in v.opening) Trusted
 named_inside v w o found n some = settled_inside v.opening w.seen w.facts (index_of found) n.openable n.named.answered.extends.sure (named_settled v w o found n some)
@@ -180,10 +173,15 @@ Made-share u w from to o q said few few_to found found_to shares leaves =
     let stays = share_stays u.number (phase_of u.opening) o q said shares.own shares.shape in
     made_tickets u w (op.Share from to) said shares.own shares.called shares.ends
     (λ cycle held ticket suits. with_some u from o few found said shares.own (λ a. WithObject held to said shares.own (λ b. IsShare u.number cycle (field.Trusted a) (field.Trusted b) said shares.own))
-    (with_some u to q few_to found_to said shares.own (λ b. IsShare u.number cycle (field.Trusted o) (field.Trusted b) said shares.own)
-    (shares.shape.0, elim shares.shape.1 [
-      | inl null ↦ inl null
-      | inr bound ↦ inr (bound.0, bound.1 ∙ ap (λ l. event u.number (act.Name (field.Trusted o)) (reply.Word shares.shape.0) ∷ l ++ event u.number (act.Bind (field.Trusted q) shares.shape.0) said ∷ [])
-          (mark_for-before u.number shares.shape.0 (phase_of u.opening) cycle suits.phase))
-    ]) cycle held ticket suits) cycle held ticket suits)
+    (with_some u to q few_to found_to said shares.own (λ b. IsShare u.number cycle (field.Trusted o) (field.Trusted b) said shares.own) (
+      shares.shape.0,
+      elim shares.shape.1 [
+        | inl null ↦ inl null
+        | inr bound ↦ inr (
+          bound.0,
+          bound.1 ∙ ap (λ l. event u.number (act.Name (field.Trusted o)) (reply.Word shares.shape.0) ∷ l ++ event u.number (act.Bind (field.Trusted q) shares.shape.0) said ∷ [])
+              (mark_for-before u.number shares.shape.0 (phase_of u.opening) cycle suits.phase),
+        )
+      ],
+    ) cycle held ticket suits) cycle held ticket suits)
     leaves.own.vars stays.0 (stays.1 (ticket_in u) ∙ ap with_ticket (pends_stay u w shares.called.same leaves.own.pending))

@@ -1,6 +1,5 @@
 -- Calls by the trusted field of a variable's object, and what they leave of the mutator's ticket.
-use Rattle.std.proofs.Common.{◌≡◌, ◌≢◌, ℕ, zero, suc, ◌+◌, ◌*◌, ◌<◌, List, [], ◌∷◌, ◌++◌, Option, Some, None, option_map, length, slice_index, slice_index_or, slice_set, get_or-set_same, refl, sym, ap, subst, ◌∙◌, inl, inr, arith}
-use Rattle.plain_table.specs.declared.events.Act.{Act}
+use Rattle.std.proofs.Common.{◌≡◌, ◌≢◌, ℕ, zero, suc, ◌+◌, ◌*◌, ◌<◌, List, [], ◌∷◌, Option, Some, None, option_map, length, slice_index, slice_index_or, slice_set, get_or-set_same, refl, sym, ap, subst, ◌∙◌, inl, inr, arith}
 use Rattle.plain_table.specs.declared.events.Act.TheVariants as act
 use Rattle.plain_table.specs.declared.events.Event.{Event}
 use Rattle.plain_table.specs.declared.events.Field.TheVariants as field
@@ -23,7 +22,7 @@ use Rattle.entry_base.specs.Sessions.{held_in, pending_in, ticket_in}
 use Rattle.entry_rule.specs.Looks.{HasTicket, Published}
 use Rattle.call_base.specs.Called.{Called, EndsWith, LeavesOwn, Made, Suits}
 use Rattle.call_base.proofs.CallsInOrder.{called_then, pends_stay, suits_stay}
-use Rattle.call_base.proofs.OneEvent.{HasShape, called_once, ends_once, ends_then, made_still, made_stays}
+use Rattle.call_base.proofs.OneEvent.{HasShape, called_once, ends_once, made_still, made_stays}
 use Rattle.call_base.proofs.HeldVariables.{WithObject-none, WithObject-some, held_suits}
 
 -- a call by a variable that holds nothing, and by one that holds an object
@@ -118,7 +117,7 @@ module _ (u v : View) (var o word : ℕ) (few : var < 16) (found : held_in u var
   Made-publish w i mutator eight own_there is_ticket at published =
       let published_at = subst (λ j. Published v j w) at published in
       let called = called_then u v w (name_event ∷ []) (λ b. event b (act.Publish (index_of word)) reply.Ok ∷ []) first_called
-          (called_once v w (act.Publish (index_of word)) reply.Ok own_there published_at.same published_at.extends) in
+      (called_once v w (act.Publish (index_of word)) reply.Ok own_there published_at.same published_at.extends) in
       made_tickets u w (op.TPub var) reply.Ok (name_event ∷ event u.number (act.Publish (index_of word)) reply.Ok ∷ []) called
       (subst (λ b. EndsWith (event b (act.Publish (index_of word)) reply.Ok ∷ []) w.seen) named.same.number (ends_once v w (event_of v (act.Publish (index_of word)) reply.Ok) published_at.extends))
       (λ cycle held ticket suits. with_some u var o few found reply.Ok _

@@ -1,5 +1,5 @@
 -- The ticket of a mutator over the calls that fill a new trusted entry and publish it, and the events of a fill.
-use Rattle.std.specs.Prelude.{◌≡◌, ◌≢◌, ◌⊎◌, ℕ, List, [], ◌∷◌, Option, Some, None, slice_set}
+use Rattle.std.specs.Prelude.{◌≡◌, ◌≢◌, ◌⊎◌, ℕ, List, [], ◌∷◌, Some, None, slice_set}
 use Rattle.plain_table.specs.declared.events.Act.TheVariants as act
 use Rattle.plain_table.specs.declared.events.Event.{Event}
 use Rattle.plain_table.specs.declared.events.Field.TheVariants as field
@@ -8,9 +8,8 @@ use Rattle.plain_table.specs.declared.reports.Reply.{Reply}
 use Rattle.plain_table.specs.declared.reports.Reply.TheVariants as reply
 use Rattle.plain_table.specs.Index.{word_of}
 use Rattle.plain_table.specs.Shapes.{IsTNew, event, own_after, with_ticket}
-use Rattle.entry_word.specs.declared.image.Pending.{Pending}
 use Rattle.entry_base.specs.declared.view.View.{View}
-use Rattle.entry_base.specs.Owns.{claim_of, without_claim}
+use Rattle.entry_base.specs.Owns.{without_claim}
 use Rattle.entry_base.specs.Sessions.{ticket_in}
 use Rattle.call_base.specs.Called.{Called, EndsWith}
 

@@ -104,6 +104,14 @@ fn mark_cell(shared: &Shared, s: &mut Session, object: u32, word: u32)
 {
     let entry = load_mark(shared, s, Space::Trusted, object, TRUSTED, word);
     if entry / MARK % 2 == 0 {
-        mark_step(shared, s, Space::Trusted, object, TRUSTED, word, entry % MARK);
+        mark_step(
+            shared,
+            s,
+            Space::Trusted,
+            object,
+            TRUSTED,
+            word,
+            entry % MARK,
+        );
     }
 }

@@ -4,8 +4,6 @@ use Rattle.entry_base.specs.Sessions.{view}
 use Rattle.call_base.specs.Called.{LeavesOwn, Made}
 use Rattle.access_steps.specs.Accesses.{reply_of}
 use Rattle.trusted_steps.proofs.TrustedCalls.{Made-tload, Made-tload_empty}
-use Rattle.trusted_steps.proofs.EntryFills.{Made-tnew}
-use Rattle.trusted_steps.proofs.SharedMarks.{Made-share}
 use Rattle.trusted_steps.proofs.loads.tload.Goals as goal
 
 pub returns-in-None-clause-made : goal.returns-in-None-clause-made

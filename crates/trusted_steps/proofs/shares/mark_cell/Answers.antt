@@ -1,4 +1,3 @@
-use Rattle.std.proofs.Common.{◌≡◌, ◌/◌, ◌%◌, ◌^◌, arith}
 use Rattle.entry_base.specs.Sessions.{view}
 use Rattle.call_base.proofs.OneEvent.{called_once}
 use Rattle.trusted_steps.proofs.SharedMarks.{entry_there, is_marked, marked_then}
@@ -17,13 +16,13 @@ returns-then-entry-eq0-clause-called c =
 pub returns-else-entry-eq0-clause-called : goal.returns-else-entry-eq0-clause-called
 returns-else-entry-eq0-clause-called c =
     let marked = is_marked (view c.args.s.now) (view c.load_mark-entry.new.s) c.args.object c.args.word c.load_mark-entry.result c.requires.openable c.requires.settled
-        c.load_mark-entry.ensures.learned c.if-entry-eq0.false in
+    c.load_mark-entry.ensures.learned c.if-entry-eq0.false in
     called_once (view c.args.s.now) (view c.load_mark-entry.new.s) _ _ c.requires.caller.1.own marked.same marked.extends
 
 pub returns-else-entry-eq0-clause-leaves : goal.returns-else-entry-eq0-clause-leaves
 returns-else-entry-eq0-clause-leaves c =
     let marked = is_marked (view c.args.s.now) (view c.load_mark-entry.new.s) c.args.object c.args.word c.load_mark-entry.result c.requires.openable c.requires.settled
-        c.load_mark-entry.ensures.learned c.if-entry-eq0.false in
+    c.load_mark-entry.ensures.learned c.if-entry-eq0.false in
     record { own = marked.own; hands = marked.hands }
 
 pub returns-else-entry-eq0-clause-marked : goal.returns-else-entry-eq0-clause-marked

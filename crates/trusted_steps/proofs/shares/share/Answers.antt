@@ -9,9 +9,9 @@ returns-in-None-clause-made c = Made-share_from (view c.args.s.now) c.args.from 
 pub returns-in-None-held-clause-made : goal.returns-in-None-held-clause-made
 returns-in-None-held-clause-made c =
     Made-share_to (view c.args.s.now) c.args.from c.args.to c.in-Some.source c.requires.range.0 c.requires.range.1 (sym c.held.ensures ∙ c.in-Some.is)
-    (sym c.held-2.ensures ∙ c.in-None-held.is)
+    (sym c.held-in-Some.ensures ∙ c.in-None-held.is)
 
 pub returns-in-Some-held-clause-made : goal.returns-in-Some-held-clause-made
 returns-in-Some-held-clause-made c =
     Made-share (view c.args.s.now) (view c.share_entry.new.s) c.args.from c.args.to c.in-Some.source c.in-Some-held.target c.share_entry.result c.requires.range.0 c.requires.range.1
-    (sym c.held.ensures ∙ c.in-Some.is) (sym c.held-2.ensures ∙ c.in-Some-held.is) c.share_entry.ensures.shares c.share_entry.ensures.leaves
+    (sym c.held.ensures ∙ c.in-Some.is) (sym c.held-in-Some.ensures ∙ c.in-Some-held.is) c.share_entry.ensures.shares c.share_entry.ensures.leaves

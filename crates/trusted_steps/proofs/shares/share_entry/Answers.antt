@@ -1,4 +1,8 @@
-use Rattle.std.proofs.Common.{◌≡◌, subst}
+use Rattle.std.proofs.Common.{◌<◌, sym, subst}
+use Rattle.plain_table.specs.declared.events.Space.TheVariants.{Trusted}
+use Rattle.plain_table.specs.Index.{index_of}
+use Rattle.plain_table.specs.Table.{limit_in}
+use Rattle.entry_base.specs.Openings.{sizes_in}
 use Rattle.entry_base.specs.Sessions.{view}
 use Rattle.object_rule.specs.Fields.{NamedTrusted}
 use Rattle.access_steps.proofs.NewBindings.{bind_reply-free, bind_reply-taken}
@@ -11,7 +15,10 @@ returns-then-word-eq0-clause-shares c =
     (subst (λ n. NamedTrusted (view c.args.s.now) c.args.source n (view c.name_trusted-word.new.s)) c.if-word-eq0.true c.name_trusted-word.ensures.learned)
 
 pub mark_in_cycle-requires-clause-inside : goal.mark_in_cycle-requires-clause-inside
-mark_in_cycle-requires-clause-inside c = ?
+mark_in_cycle-requires-clause-inside c =
+    let n = c.name_trusted-word.ensures.learned in
+    subst (λ o. index_of c.name_trusted-word.result < limit_in (sizes_in o) Trusted) (sym n.named.answered.same.opening)
+    (named_inside (view c.args.s.now) (view c.name_trusted-word.new.s) c.args.source c.name_trusted-word.result n c.if-word-eq0.false)
 
 pub returns-then-found-eq0-clause-shares : goal.returns-then-found-eq0-clause-shares
 returns-then-found-eq0-clause-shares c =
