@@ -1,0 +1,5 @@
+pub mod Words
+pub mod Marks
+pub mod MarkParts
+pub mod Evacuations
+pub mod EvacuationParts
