@@ -15,6 +15,7 @@ use Rattle.entry_base.specs.declared.view.View.{View}
 use Rattle.entry_base.specs.Callers.{SameCaller, Extends, event_of}
 use Rattle.entry_base.specs.Numbers.{HasNumber}
 use Rattle.entry_base.specs.Openings.{phase_of, start_of}
+use Rattle.entry_base.specs.Owns.{HoldsIn}
 use Rattle.entry_base.specs.Sessions.{held_in, object_at}
 use Rattle.call_base.specs.Called.{Made, Suits}
 use Rattle.call_base.proofs.CallsInOrder.{pends_stay}
@@ -32,6 +33,10 @@ object_word-at (suc q) = grind (arith)
 -- a variable of the model holds what the view tells
 pub held_suits : (v : View) (var : ℕ) → var < 16 → (cycle : Option Cycle) (held : Held) (own : OwnTicket) → Suits v cycle held own → held var ≡ held_in v var
 held_suits v var few cycle held own suits = sym (object_at-word (held var)) ∙ ap object_at (sym (suits.holds var few))
+
+-- what `held_in` says of the variable's word
+pub holds_in : (v : View) (var o : ℕ) → var < 16 → held_in v var ≡ Some o → HoldsIn v var o
+holds_in v var o few is = (few, sym (object_word-at (slice_index v.vars (16 * v.number + var))) ∙ ap object_word is)
 
 -- a call whose variable holds nothing, or an object
 pub WithObject-none : (held : Held) (var : ℕ) (Shape : ℕ → Type 0) → held var ≡ None → WithObject held var reply.Empty [] Shape

@@ -1,15 +1,19 @@
 -- Calls of no event and of one.
-use Rattle.std.proofs.Common.{◌≡◌, List, [], ◌∷◌, ◌++◌, Option, sym, subst₂, refl}
+use Rattle.std.proofs.Common.{◌≡◌, List, [], ◌∷◌, ◌++◌, Option, sym, subst, subst₂, refl}
 use Rattle.plain_table.specs.declared.events.Act.{Act}
 use Rattle.plain_table.specs.declared.events.Event.{Event}
 use Rattle.plain_table.specs.declared.scripts.Op.{Op}
 use Rattle.plain_table.specs.declared.reports.Reply.{Reply}
 use Rattle.plain_table.specs.Cycle.{Cycle}
+use Rattle.plain_table.specs.History.{IsLegal, IsLegalHistory, after, next}
 use Rattle.plain_table.specs.Shapes.{Held, OwnTicket, IsShape, held_after, held_next, own_after, own_next}
+use Rattle.plain_table.specs.Sound.{IsSound}
+use Rattle.plain_table.specs.Table.{Table}
 use Rattle.entry_base.specs.declared.view.View.{View}
 use Rattle.entry_base.specs.Callers.{SameCaller, Extends, event_of}
 use Rattle.entry_base.specs.Numbers.{HasNumber}
-use Rattle.call_base.specs.Called.{Called, EndsWith, Made, Suits}
+use Rattle.entry_base.specs.Openings.{sizes_in}
+use Rattle.call_base.specs.Called.{Called, EndsWith, HeldAtLast, Made, Suits}
 use Rattle.call_base.proofs.CallsInOrder.{EndsWith-last, called_extends, called_none, suits_stay}
 
 -- a step with one event of the caller's number
@@ -57,3 +61,19 @@ pub made_once : (v w : View) (call : Op) (act : Act) (said : Reply) → HasNumbe
 made_once v w call act said own same vars pending extends shape held_still own_still =
     made_stays v w call said (event_of v act said ∷ []) (called_once v w act said own same extends) (ends_once v w (event_of v act said) extends) shape
     (suits_stay v w same vars pending) held_still own_still
+
+-- the last event of a legal history is legal in the table that the others left
+pub IsLegalHistory-last : (b : Table) (es : List Event) (e : Event) → IsLegalHistory b (es ++ e ∷ []) → IsLegal (after b es) e
+IsLegalHistory-last b [] e h = h.0
+IsLegalHistory-last b (d ∷ es) e h = IsLegalHistory-last (next b d) es e h.1
+
+-- what a step with an event says of the moment before it: the event was legal, with its reply, in a sound table of these sizes
+pub held_at_last : (v w : View) (e : Event) (P : Table → Type 0) → Extends v e w
+    → ((t : Table) → IsSound t → t.sizes ≡ sizes_in v.opening → IsLegal t e → P t) → HeldAtLast v.opening w.seen P
+held_at_last v w e P x holds = record {
+  front = v.seen ++ x.between;
+  last = e;
+  ends = x.seen;
+  held = λ b is. holds (after b (v.seen ++ x.between)) (x.before b is).sound (x.before b is).sizes
+      (IsLegalHistory-last b (v.seen ++ x.between) e (subst (IsLegalHistory b) x.seen (x.lawful.legal b is)));
+}

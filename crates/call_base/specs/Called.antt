@@ -5,12 +5,15 @@ use Rattle.plain_table.specs.declared.scripts.Op.{Op}
 use Rattle.plain_table.specs.declared.reports.Reply.{Reply}
 use Rattle.plain_table.specs.Belongs.{events_by}
 use Rattle.plain_table.specs.Cycle.{Cycle, start_in}
+use Rattle.plain_table.specs.History.{after}
+use Rattle.plain_table.specs.Table.{Table}
 use Rattle.plain_table.specs.Words.{object_word, phase_word}
 use Rattle.plain_table.specs.Shapes.{Held, OwnTicket, IsShape, MakesCalls, held_after, own_after, with_ticket}
+use Rattle.entry_base.specs.declared.view.Opening.{Opening}
 use Rattle.entry_base.specs.declared.view.View.{View}
 use Rattle.entry_base.specs.Callers.{SameCaller, SameOwn}
 use Rattle.entry_base.specs.Lists.{Each, count_in}
-use Rattle.entry_base.specs.Openings.{phase_of, sizes_in, start_of}
+use Rattle.entry_base.specs.Openings.{IsBase, phase_of, sizes_in, start_of}
 use Rattle.entry_base.specs.Sessions.{ticket_in}
 
 -- an event of the caller, or of a number that is none of its numbers
@@ -30,6 +33,13 @@ abbrev pub EndsWith : List Event → List Event → Type 0
 EndsWith [] seen = Unit {0}
 EndsWith (e ∷ []) seen = (front : List Event) × (seen ≡ front ++ e ∷ [])
 EndsWith (e ∷ f ∷ es) seen = EndsWith (f ∷ es) seen
+
+-- this held of the table right before the last event of a history, whichever table the phase began in
+pub record HeldAtLast (key : Opening) (h : List Event) (P : Table → Type 0) : Type 0 where
+  pub front : List Event
+  pub last : Event
+  pub ends : h ≡ front ++ last ∷ []
+  pub held : (b : Table) → IsBase key b → P (after b front)
 
 -- the cycle, the variables and the ticket of the model are those that the view tells
 pub record Suits (v : View) (cycle : Option Cycle) (held : Held) (own : OwnTicket) : Type 0 where

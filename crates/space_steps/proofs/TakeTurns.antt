@@ -16,13 +16,13 @@ use Rattle.free_chain.specs.Rank.{rank}
 use Rattle.entry_base.specs.declared.view.Fact.{Fact}
 use Rattle.entry_base.specs.declared.view.Fact.TheVariants as fact
 use Rattle.entry_base.specs.declared.view.View.{View}
-use Rattle.entry_base.specs.Callers.{SameCaller, SameOwn, Looks, Extends, event_of}
+use Rattle.entry_base.specs.Callers.{SameCaller, Looks, Extends, event_of}
 use Rattle.entry_base.specs.Learned.{Loaded}
 use Rattle.entry_base.specs.Lists.{Has, count_in}
 use Rattle.entry_base.specs.Numbers.{HasNumber}
 use Rattle.entry_base.specs.Openings.{sizes_in}
 use Rattle.entry_base.specs.Owns.{claim_of, without_claim}
-use Rattle.entry_base.specs.Ranks.{takes_in, takes_of, Rises}
+use Rattle.entry_base.specs.Ranks.{takes_in, takes_of}
 use Rattle.entry_base.proofs.OneByOne.{own_trans, same_trans}
 use Rattle.call_base.specs.Called.{Called, EndsWith, LeavesOwn}
 use Rattle.call_base.proofs.CallsInOrder.{called_none, called_looks, called_extends, called_trans, EndsWith-last}
@@ -65,8 +65,9 @@ pub called_event : (u v w : View) (a : Act) (r : Reply) → HasNumber u u.number
 called_event u v w a r own before s x =
     let is = same_event u v before.same a r in
     let added = called_extends v w (event_of v a r) refl (own_number u v before.same own) s x in (
-    called_trans u v w [] (event_of u a r ∷ []) before (subst (λ e. Called v (e ∷ []) w) is added),
-    subst (λ e. EndsWith (e ∷ []) w.seen) is (EndsWith-last [] (event_of v a r) (v.seen ++ x.between) w.seen x.seen))
+      called_trans u v w [] (event_of u a r ∷ []) before (subst (λ e. Called v (e ∷ []) w) is added),
+      subst (λ e. EndsWith (e ∷ []) w.seen) is (EndsWith-last [] (event_of v a r) (v.seen ++ x.between) w.seen x.seen),
+    )
 
 pub takes_of-take : (p : Space) (i : ℕ) → takes_of p (act.Take p) (reply.Index i) ≡ 1
 takes_of-take External i = refl
@@ -80,19 +81,19 @@ module _ (v x y : View) (p : Space) (more : List Fact) (own : HasNumber v v.numb
   pub try_took : (a : Act) (t : Ticket) → takes_of p a (reply.Index t.index) ≡ 1 → t.number ≡ y.number → t.space ≡ p → TookHead x p a t.index y → TookIndex v p a t y
   try_took a t one number space took =
       let both = called_event v x y a (reply.Index t.index) own loaded_before took.same took.extends in record {
-    called = both.0;
-    ends = both.1;
-    owes = record {
-      number = number ∙ (took.same.number ∙ load.same.number);
-      space = space;
-      inside = (took.inside.0, subst (λ o. t.index < limit_in (sizes_in o) p) load.same.opening took.inside.1);
-      owed = took.owed ∙ (ap (λ l. claim_of x p t.index ∷ l) load.own.owed ∙ ap (λ (n : ℕ). record { number = n; space = p; index = t.index } ∷ v.owed) load.same.number);
-      fresh_claim = subst (λ n. without_claim n p t.index v.owed ≡ v.owed) load.same.number
-          (subst (λ l. without_claim x.number p t.index l ≡ l) load.own.owed took.fresh_claim);
-      rest = (took.rest.0 ∙ load.own.vars, took.rest.1 ∙ load.own.pending, took.rest.2 ∙ load.own.fresh, took.rest.3 ∙ load.hands);
-      knows = took.knows;
-    };
-  }
+        called = both.0;
+        ends = both.1;
+        owes = record {
+          number = number ∙ (took.same.number ∙ load.same.number);
+          space = space;
+          inside = (took.inside.0, subst (λ o. t.index < limit_in (sizes_in o) p) load.same.opening took.inside.1);
+          owed = took.owed ∙ (ap (λ l. claim_of x p t.index ∷ l) load.own.owed ∙ ap (λ (n : ℕ). record { number = n; space = p; index = t.index } ∷ v.owed) load.same.number);
+          fresh_claim = subst (λ n. without_claim n p t.index v.owed ≡ v.owed) load.same.number
+              (subst (λ l. without_claim x.number p t.index l ≡ l) load.own.owed took.fresh_claim);
+          rest = (took.rest.0 ∙ load.own.vars, took.rest.1 ∙ load.own.pending, took.rest.2 ∙ load.own.fresh, took.rest.3 ∙ load.hands);
+          knows = took.knows;
+        };
+      }
 
   pub try_counts : (a : Act) (i : ℕ) → takes_of p a (reply.Index i) ≡ 1 → TookHead x p a i y → takes_in p v.seen < takes_in p y.seen
   try_counts a i one took = let up = takes_grow v x _ p loaded_before in let more = takes_one x y p (event_of x a (reply.Index i)) one took.extends in omega arith
@@ -218,19 +219,20 @@ module _ (v w x : View) (p : Space) (a : Act) (said : Reply) (word before now af
       let is = same_event v w called.same a (reply.Index t.index) in
       let c = called_trans v w x [] (event_of v a (reply.Index t.index) ∷ []) called (subst (λ e. Called w (e ∷ []) x) is took.called) in
       let o = took.owes in (
-      c,
-      subst (λ e. EndsWith (e ∷ []) x.seen) is took.ends,
-      record {
-        number = o.number ∙ called.same.number;
-        space = o.space;
-        inside = (o.inside.0, subst (λ k. t.index < limit_in (sizes_in k) p) called.same.opening o.inside.1);
-        owed = o.owed ∙ (ap (λ l. claim_of w p t.index ∷ l) leaves.own.owed ∙ ap (λ (n : ℕ). record { number = n; space = p; index = t.index } ∷ v.owed) called.same.number);
-        fresh_claim = subst (λ n. without_claim n p t.index v.owed ≡ v.owed) called.same.number
-            (subst (λ l. without_claim w.number p t.index l ≡ l) leaves.own.owed o.fresh_claim);
-        rest = (o.rest.0 ∙ leaves.own.vars, o.rest.1 ∙ leaves.own.pending, o.rest.2 ∙ leaves.own.fresh, o.rest.3 ∙ leaves.hands);
-        knows = o.knows;
-      },
-      tries_few v x p a (reply.Index t.index) before after few c (counted more))
+        c,
+        subst (λ e. EndsWith (e ∷ []) x.seen) is took.ends,
+        record {
+          number = o.number ∙ called.same.number;
+          space = o.space;
+          inside = (o.inside.0, subst (λ k. t.index < limit_in (sizes_in k) p) called.same.opening o.inside.1);
+          owed = o.owed ∙ (ap (λ l. claim_of w p t.index ∷ l) leaves.own.owed ∙ ap (λ (n : ℕ). record { number = n; space = p; index = t.index } ∷ v.owed) called.same.number);
+          fresh_claim = subst (λ n. without_claim n p t.index v.owed ≡ v.owed) called.same.number
+              (subst (λ l. without_claim w.number p t.index l ≡ l) leaves.own.owed o.fresh_claim);
+          rest = (o.rest.0 ∙ leaves.own.vars, o.rest.1 ∙ leaves.own.pending, o.rest.2 ∙ leaves.own.fresh, o.rest.3 ∙ leaves.hands);
+          knows = o.knows;
+        },
+        tries_few v x p a (reply.Index t.index) before after few c (counted more),
+      )
 
 -- and its measure
 pub rank_rises : (x y : View) (p : Space) (word later : ℕ) → HasRisen p word x → FreelistLoaded x p later y → rank word < rank later
@@ -251,3 +253,6 @@ no_step v = (called_none v, record { own = record { vars = refl; pending = refl;
 
 pub measure_falls : (word later : ℕ) → later < 2 ^ 64 → rank word < rank later → 2 ^ 34 - rank later < 2 ^ 34 - rank word
 measure_falls word later small up = let low = rank_low later small in omega (arith, low, up)
+
+pub same_after : {v w x : View} → Called v [] w → Called w [] x → SameCaller v x
+same_after {v} {w} {x} a b = same_trans v w x a.same b.same

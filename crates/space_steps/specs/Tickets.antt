@@ -1,5 +1,5 @@
 -- What a take leaves to its caller.
-use Rattle.std.specs.Prelude.{◌≡◌, ◌≢◌, ℕ, ◌<◌, ◌∷◌}
+use Rattle.std.specs.Prelude.{◌≡◌, ◌≢◌, ◌<◌, ◌∷◌}
 use Rattle.plain_table.specs.declared.events.Space.{Space}
 use Rattle.plain_table.specs.Table.{limit_in}
 use Rattle.entry_base.specs.declared.view.Claim.{Claim}

@@ -115,12 +115,7 @@ fn try_take<L: Ledger>(
 
 /// Takes the least free external index below the start of the area. The answer is never `Full`, and `NoRoom` exactly where no index
 /// below the start is free at the event. It counts steps as `take` does.
-pub fn below<L: Ledger>(
-    shared: &Shared,
-    s: &mut Session,
-    start: u32,
-    steps: &mut Steps<L>,
-) -> Taken
+pub fn below<L: Ledger>(shared: &Shared, s: &mut Session, start: u32, steps: &mut Steps<L>) -> Taken
     requires caller { IsOf shared.now s.old }
     requires area { start_of (view s.old).opening ≡ Some start }
     ensures caller { IsOf shared.now s.new }

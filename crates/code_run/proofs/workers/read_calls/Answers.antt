@@ -17,8 +17,8 @@ loop-r-preserved c =
       caller = e.caller;
       entries = entries;
       read = elim c.match-read.branch [
-        | in-Pair+then-not-is_pair_of_run w ↦ subst (ReadCalls (view c.args.seat) (c.loop-r.r + 1) (view c.read.new.s)) (sym w.counts-is) (read_bad (view c.args.seat) (view c.loop-r.seat) (view c.read.new.s) c.loop-r.r w.in-Pair.seq w.in-Pair.seq c.loop-r.counts i.read i.entries entries_shown e.same w.in-Pair.ensures.shown w.in-Pair.ensures.common.0 w.in-Pair.code w.in-Pair.entry w.in-Pair.seq w.in-Pair.ensures.cause refl w.in-Pair.ensures.common.1 (sym w.is_pair_of_run.ensures ∙ w.if-not-is_pair_of_run.true))
-        | in-Pair+else-not-is_pair_of_run w ↦ subst (ReadCalls (view c.args.seat) (c.loop-r.r + 1) (view c.read.new.s)) (sym w.counts-is) (read_good (view c.args.seat) (view c.loop-r.seat) (view c.read.new.s) c.loop-r.r w.in-Pair.seq w.in-Pair.seq c.loop-r.counts i.read i.entries entries_shown e.same w.in-Pair.ensures.shown w.in-Pair.ensures.common.0 w.in-Pair.code w.in-Pair.entry w.in-Pair.seq w.in-Pair.ensures.cause refl w.in-Pair.ensures.common.1 (sym w.is_pair_of_run.ensures ∙ w.if-not-is_pair_of_run.false))
-        | in-Again w ↦ subst (ReadCalls (view c.args.seat) (c.loop-r.r + 1) (view c.read.new.s)) (sym w.counts-is) (read_again (view c.args.seat) (view c.loop-r.seat) (view c.read.new.s) c.loop-r.r w.in-Again.first w.in-Again.second c.loop-r.counts i.read i.entries entries_shown e.same w.in-Again.ensures.shown w.in-Again.ensures.common w.in-Again.ensures.cause)
+        | in-Pair+then-not-is_pair_of_run w ↦ subst (ReadCalls (view c.args.seat) (c.loop-r.r + 1) (view c.read.new.s)) (sym w.counts-is) (read_bad (view c.args.seat) (view c.loop-r.seat) (view c.read.new.s) c.loop-r.r w.in-Pair.seq w.in-Pair.seq c.loop-r.counts i.read i.entries entries_shown e.same w.in-Pair.ensures.shown w.in-Pair.ensures.learned.0 w.in-Pair.code w.in-Pair.entry w.in-Pair.seq w.in-Pair.ensures.cause refl w.in-Pair.ensures.learned.1 (sym w.is_pair_of_run.ensures ∙ w.if-not-is_pair_of_run.true))
+        | in-Pair+else-not-is_pair_of_run w ↦ subst (ReadCalls (view c.args.seat) (c.loop-r.r + 1) (view c.read.new.s)) (sym w.counts-is) (read_good (view c.args.seat) (view c.loop-r.seat) (view c.read.new.s) c.loop-r.r w.in-Pair.seq w.in-Pair.seq c.loop-r.counts i.read i.entries entries_shown e.same w.in-Pair.ensures.shown w.in-Pair.ensures.learned.0 w.in-Pair.code w.in-Pair.entry w.in-Pair.seq w.in-Pair.ensures.cause refl w.in-Pair.ensures.learned.1 (sym w.is_pair_of_run.ensures ∙ w.if-not-is_pair_of_run.false))
+        | in-Again w ↦ subst (ReadCalls (view c.args.seat) (c.loop-r.r + 1) (view c.read.new.s)) (sym w.counts-is) (read_again (view c.args.seat) (view c.loop-r.seat) (view c.read.new.s) c.loop-r.r w.in-Again.first w.in-Again.second c.loop-r.counts i.read i.entries entries_shown e.same w.in-Again.ensures.shown w.in-Again.ensures.learned w.in-Again.ensures.cause)
       ];
     }

@@ -8,5 +8,5 @@ returns-then-found-expected-clause-shown c = search (rules, missed_shown)
 pub returns-clause-shown : goal.returns-clause-shown
 returns-clause-shown c = search (rules, write_shown)
 
-pub returns-clause-common : goal.returns-clause-common
-returns-clause-common c = search (rules, write_stored)
+pub returns-clause-learned : goal.returns-clause-learned
+returns-clause-learned c = search (rules, write_stored)

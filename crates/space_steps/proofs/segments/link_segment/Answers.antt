@@ -6,7 +6,7 @@ use Rattle.entry_base.specs.declared.view.View.{View}
 use Rattle.entry_base.specs.Callers.{SameCaller}
 use Rattle.entry_base.specs.Lists.{Has}
 use Rattle.call_base.proofs.CallsInOrder.{called_looks, called_trans}
-use Rattle.space_steps.proofs.TakeTurns.{leaves_trans, own_number}
+use Rattle.space_steps.proofs.TakeTurns.{leaves_trans}
 use Rattle.space_steps.proofs.segments.link_segment.Goals as goal
 
 linked_on : (v w : View) (p : Space) (head index : ℕ) → SameCaller v w → Has w.facts (fact.Linked p index)
@@ -21,8 +21,8 @@ pub loop-index-preserved : goal.loop-index-preserved
 loop-index-preserved c =
     let i = c.loop-index.invariant in
     let l = c.link_entry.ensures.learned in record {
-  caller = c.link_entry.ensures.caller;
-  called = called_trans _ _ _ [] [] i.called (called_looks _ _ i.caller.1.own l.same l.looks);
-  leaves = leaves_trans _ _ _ i.leaves (record { own = l.own; hands = l.hands });
-  linked = linked_on _ _ _ _ _ l.same l.knows i.linked;
-}
+      caller = c.link_entry.ensures.caller;
+      called = called_trans _ _ _ [] [] i.called (called_looks _ _ i.caller.1.own l.same l.looks);
+      leaves = leaves_trans _ _ _ i.leaves (record { own = l.own; hands = l.hands });
+      linked = linked_on _ _ _ _ _ l.same l.knows i.linked;
+    }

@@ -5,7 +5,8 @@ use Rattle.space_steps.proofs.takes.try_below.Goals as goal
 pub returns-in-Ok-clause-took : goal.returns-in-Ok-clause-took
 returns-in-Ok-clause-took g c = (
   subst (λ i. i < c.args.start) (sym c.in-Ok.ensures.won.0) c.requires.below,
-  try_took _ _ _ _ _ c.requires.caller.1.own c.load_link.ensures.learned _ _ refl c.number.ensures refl c.in-Ok.ensures.won.1)
+  try_took _ _ _ _ _ c.requires.caller.1.own c.load_link.ensures.learned _ _ refl c.number.ensures refl c.in-Ok.ensures.won.1,
+)
 
 pub returns-in-Ok-clause-more : goal.returns-in-Ok-clause-more
 returns-in-Ok-clause-more g c = try_counts _ _ _ _ _ c.requires.caller.1.own c.load_link.ensures.learned _ _ refl c.in-Ok.ensures.won.1

@@ -1,0 +1,3 @@
+pub mod LookReads
+pub mod Writes
+pub mod FieldAccesses

@@ -1,0 +1,16 @@
+use Rattle.std.proofs.Common.{rules, ◌∙◌, sym}
+use Rattle.entry_base.specs.Sessions.{view}
+use Rattle.call_base.specs.Called.{LeavesOwn}
+use Rattle.access_steps.proofs.FieldAccesses.{Made-store, Made-store_empty}
+use Rattle.access_steps.proofs.fields.store.Goals as goal
+
+pub returns-in-None-clause-made : goal.returns-in-None-clause-made
+returns-in-None-clause-made c =
+    Made-store_empty (view c.args.s.now) c.args.var c.args.f c.requires.range.0 (sym c.field_number.ensures.number ∙ c.in-None.is) c.args.range.first c.args.range.last c.args.value
+
+pub returns-in-Some-clause-made : goal.returns-in-Some-clause-made
+returns-in-Some-clause-made c =
+    let leaves : LeavesOwn (view c.args.s.now) (view c.store_at.new.s) = search rules in
+    Made-store (view c.args.s.now) _ c.args.var c.args.f c.in-Some.number c.requires.range.0 (sym c.field_number.ensures.number ∙ c.in-Some.is)
+    (view c.name_external-word.new.s) c.name_external-word.result c.args.range.first c.args.range.last c.store_at.result c.requires.caller.1.own
+    c.name_external-word.ensures.learned.answered leaves c.args.value c.store_at.ensures.writes
