@@ -8,7 +8,7 @@ use Rattle.plain_table.specs.declared.reports.Reply.{Reply}
 use Rattle.plain_table.specs.declared.reports.Reply.TheVariants as reply
 use Rattle.plain_table.specs.Cycle.{Cycle, start_in}
 use Rattle.plain_table.specs.Places.{put_at}
-use Rattle.plain_table.specs.Shapes.{Held, OwnTicket, IsEmptyCall, WithObject, held_next, own_next, with_ticket}
+use Rattle.plain_table.specs.Shapes.{Held, OwnTicket, IsEmptyCall, WithObject, held_after, held_next, own_after, own_next, with_ticket}
 use Rattle.plain_table.specs.Words.{object_word, phase_word}
 use Rattle.plain_table.proofs.PlaceReads.{read_at}
 use Rattle.entry_base.specs.declared.view.View.{View}
@@ -17,7 +17,7 @@ use Rattle.entry_base.specs.Numbers.{HasNumber}
 use Rattle.entry_base.specs.Openings.{phase_of, start_of}
 use Rattle.entry_base.specs.Owns.{HoldsIn}
 use Rattle.entry_base.specs.Sessions.{held_in, object_at}
-use Rattle.call_base.specs.Called.{Made, Suits}
+use Rattle.call_base.specs.Called.{Called, EndsWith, Made, Suits}
 use Rattle.call_base.proofs.CallsInOrder.{pends_stay}
 use Rattle.call_base.proofs.OneEvent.{HasShape, called_once, ends_once}
 
@@ -37,6 +37,9 @@ held_suits v var few cycle held own suits = sym (object_at-word (held var)) ∙ 
 -- what `held_in` says of the variable's word
 pub holds_in : (v : View) (var o : ℕ) → var < 16 → held_in v var ≡ Some o → HoldsIn v var o
 holds_in v var o few is = (few, sym (object_word-at (slice_index v.vars (16 * v.number + var))) ∙ ap object_word is)
+
+pub held_in-holds : (v : View) (var o : ℕ) → HoldsIn v var o → held_in v var ≡ Some o
+held_in-holds v var o holds = ap object_at holds.1 ∙ object_at-word (Some o)
 
 -- a call whose variable holds nothing, or an object
 pub WithObject-none : (held : Held) (var : ℕ) (Shape : ℕ → Type 0) → held var ≡ None → WithObject held var reply.Empty [] Shape
@@ -72,14 +75,19 @@ module _ (v w : View) (var word : ℕ) (x : Option ℕ) (few : var < 16) (mutato
     pends = suits.pends ∙ ap with_ticket (pends_stay v w same pending);
   }
 
-  -- a call of one event that sets it
-  pub made_sets : (call : Op) (act : Act) (said : Reply) → w.pending ≡ v.pending → HasNumber v v.number → Extends v (event_of v act said) w
-      → HasShape v call said (event_of v act said ∷ [])
-      → ((held : Held) → held_next held act said ≡ put_at held var x) → ((own : OwnTicket) → own_next own act said ≡ own) → Made v call said w
-  made_sets call act said pending own extends shape sets own_still = record {
-    own = event_of v act said ∷ [];
-    called = called_once v w act said own same extends;
-    ends = ends_once v w (event_of v act said) extends;
+  -- a call whose events set it, and one of one event
+  pub made_sets_by : (call : Op) (said : Reply) (events : List Event) → w.pending ≡ v.pending → Called v events w → EndsWith events w.seen → HasShape v call said events
+      → ((held : Held) → held_after held events ≡ put_at held var x) → ((own : OwnTicket) → own_after own events ≡ own) → Made v call said w
+  made_sets_by call said events pending called ends shape sets own_still = record {
+    own = events;
+    called = called;
+    ends = ends;
     shape = shape;
     suits = λ cycle held ticket suits. subst₂ (λ h t. Suits w cycle h t) (sym (sets held)) (sym (own_still ticket)) (suits_set pending cycle held ticket suits);
   }
+
+  pub made_sets : (call : Op) (act : Act) (said : Reply) → w.pending ≡ v.pending → HasNumber v v.number → Extends v (event_of v act said) w
+      → HasShape v call said (event_of v act said ∷ [])
+      → ((held : Held) → held_next held act said ≡ put_at held var x) → ((own : OwnTicket) → own_next own act said ≡ own) → Made v call said w
+  made_sets call act said pending own extends shape sets own_still =
+      made_sets_by call said (event_of v act said ∷ []) pending (called_once v w act said own same extends) (ends_once v w (event_of v act said) extends) shape sets own_still

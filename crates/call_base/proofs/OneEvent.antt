@@ -6,7 +6,7 @@ use Rattle.plain_table.specs.declared.scripts.Op.{Op}
 use Rattle.plain_table.specs.declared.reports.Reply.{Reply}
 use Rattle.plain_table.specs.Cycle.{Cycle}
 use Rattle.plain_table.specs.History.{IsLegal, IsLegalHistory, after, next}
-use Rattle.plain_table.specs.Shapes.{Held, OwnTicket, IsShape, held_after, held_next, own_after, own_next}
+use Rattle.plain_table.specs.Shapes.{Held, OwnTicket, IsShape, event, held_after, held_next, own_after, own_next}
 use Rattle.plain_table.specs.Sound.{IsSound}
 use Rattle.plain_table.specs.Table.{Table}
 use Rattle.entry_base.specs.declared.view.View.{View}
@@ -14,7 +14,7 @@ use Rattle.entry_base.specs.Callers.{SameCaller, Extends, event_of}
 use Rattle.entry_base.specs.Numbers.{HasNumber}
 use Rattle.entry_base.specs.Openings.{sizes_in}
 use Rattle.call_base.specs.Called.{Called, EndsWith, HeldAtLast, Made, Suits}
-use Rattle.call_base.proofs.CallsInOrder.{EndsWith-last, called_extends, called_none, suits_stay}
+use Rattle.call_base.proofs.CallsInOrder.{EndsWith-last, called_extends, called_none, called_then, suits_stay}
 
 -- a step with one event of the caller's number
 pub called_once : (v w : View) (act : Act) (said : Reply) → HasNumber v v.number → SameCaller v w → Extends v (event_of v act said) w → Called v (event_of v act said ∷ []) w
@@ -61,6 +61,21 @@ pub made_once : (v w : View) (call : Op) (act : Act) (said : Reply) → HasNumbe
 made_once v w call act said own same vars pending extends shape held_still own_still =
     made_stays v w call said (event_of v act said ∷ []) (called_once v w act said own same extends) (ends_once v w (event_of v act said) extends) shape
     (suits_stay v w same vars pending) held_still own_still
+
+-- a step with one event, after others without one
+pub called_after : (u v w : View) (act : Act) (said : Reply) → HasNumber v v.number → Called u [] v → SameCaller v w → Extends v (event_of v act said) w → Called u (event_of u act said ∷ []) w
+called_after u v w act said own before same extends = called_then u v w [] (λ b. event b act said ∷ []) before (called_once v w act said own same extends)
+
+pub ends_after : (u v w : View) (act : Act) (said : Reply) → Called u [] v → Extends v (event_of v act said) w → EndsWith (event_of u act said ∷ []) w.seen
+ends_after u v w act said before extends = subst (λ b. EndsWith (event b act said ∷ []) w.seen) before.same.number (ends_once v w (event_of v act said) extends)
+
+-- and a call that makes them, and leaves variables and ticket
+pub made_after : (u v w : View) (call : Op) (act : Act) (said : Reply) → HasNumber v v.number → Called u [] v → SameCaller v w → w.vars ≡ u.vars → w.pending ≡ u.pending
+    → Extends v (event_of v act said) w → HasShape u call said (event_of u act said ∷ [])
+    → ((held : Held) → held_next held act said ≡ held) → ((own : OwnTicket) → own_next own act said ≡ own) → Made u call said w
+made_after u v w call act said own before same vars pending extends shape held_still own_still =
+    let called = called_after u v w act said own before same extends in
+    made_stays u w call said (event_of u act said ∷ []) called (ends_after u v w act said before extends) shape (suits_stay u w called.same vars pending) held_still own_still
 
 -- the last event of a legal history is legal in the table that the others left
 pub IsLegalHistory-last : (b : Table) (es : List Event) (e : Event) → IsLegalHistory b (es ++ e ∷ []) → IsLegal (after b es) e

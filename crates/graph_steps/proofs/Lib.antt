@@ -1,0 +1,3 @@
+pub mod ObjectCalls
+pub mod LinkCalls
+pub mod NewCalls

@@ -1,14 +1,17 @@
 -- What calls on objects leave: what a variable holds after a reply, what a link names, and an object that was shaded.
-use Rattle.std.specs.Prelude.{◌≡◌, ◌≢◌, ◌↔◌, ℕ, ◌+◌, ◌*◌, Bool, if◌then◌else◌, ◌∷◌, Option, Some, None, slice_set}
+use Rattle.std.specs.Prelude.{◌≡◌, ◌⊎◌, ◌<◌, ◌≤◌, ℕ, ◌+◌, ◌*◌, Bool, if◌then◌else◌, [], ◌∷◌, Option, Some, None, slice_set}
+use Rattle.std.specs.Option.{option_map_or}
 use Rattle.plain_table.specs.declared.events.Spot.{Spot}
 use Rattle.plain_table.specs.declared.reports.Reply.{Reply}
 use Rattle.plain_table.specs.declared.reports.Reply.TheVariants as reply
 use Rattle.plain_table.specs.Rows.{at_spot}
+use Rattle.plain_table.specs.Table.{Table}
 use Rattle.plain_table.specs.Words.{object_word}
 use Rattle.entry_base.specs.declared.view.Fact.TheVariants as fact
 use Rattle.entry_base.specs.declared.view.View.{View}
 use Rattle.entry_base.specs.Callers.{SameOwn}
 use Rattle.entry_base.specs.Lists.{Has}
+use Rattle.entry_base.specs.Openings.{sizes_in}
 use Rattle.entry_base.specs.Sessions.{held_in}
 use Rattle.call_base.specs.Called.{Called, HeldAtLast, LeavesOwn}
 
@@ -24,17 +27,17 @@ HoldsReply v var (reply.Obj q) w = NowHolds v var (Some q) w
 HoldsReply v var reply.Nothing w = NowHolds v var None w
 HoldsReply v var _ w = LeavesOwn v w
 
--- the heap was full exactly where the count was the limit at the event
-abbrev pub IsFullAtLimit : View → Reply → Type 0
-IsFullAtLimit w said = HeldAtLast w.opening w.seen (λ t. (said ≡ reply.HeapFull) ↔ (t.count ≡ t.sizes.objects))
+-- the object of the count was made where the count was below the limit at the event, and else the heap was full
+abbrev pub IsNewReply : Table → Reply → Type 0
+IsNewReply t said =
+    ((t.count < t.sizes.objects) × (said ≡ reply.Obj t.count)) ⊎ ((t.count ≡ t.sizes.objects) × (said ≡ reply.HeapFull))
 
--- what a place holds, as a reply; and that it held this at the event
-abbrev pub object_reply : Option ℕ → Reply
-object_reply None = reply.Nothing
-object_reply (Some q) = reply.Obj q
+abbrev pub IsNewAtEvent : View → Reply → Type 0
+IsNewAtEvent w said = HeldAtLast w.opening w.seen (λ t. IsNewReply t said)
 
+-- a place held at the event what the reply says
 abbrev pub IsAtSpot : View → Spot → Reply → Type 0
-IsAtSpot w spot said = HeldAtLast w.opening w.seen (λ t. said ≡ object_reply (at_spot t spot))
+IsAtSpot w spot said = HeldAtLast w.opening w.seen (λ t. said ≡ option_map_or reply.Obj (at_spot t spot) reply.Nothing)
 
 -- the object that a link names: that of a variable, or none; and a named variable that holds nothing
 abbrev pub target_in : View → Option ℕ → Option ℕ
@@ -45,9 +48,15 @@ abbrev pub IsUnheld : View → Option ℕ → Type 0
 IsUnheld v None = ⊥
 IsUnheld v (Some var) = held_in v var ≡ None
 
--- an object was shaded, and came into the hands exactly where it was white
+-- an object is known as shaded, and came into the hands exactly where it was white
 pub record IsShadedNow (v : View) (o : ℕ) (white : Bool) (w : View) : Type 0 where
-  pub called : Called v [] w
   pub own : SameOwn v w
   pub hands : w.hands ≡ (if white then o ∷ v.hands else v.hands)
   pub knows : Has w.facts (fact.Shaded o)
+
+-- tries to make an object made no event so far, and at least so many are made
+pub record TriedTo (v : View) (least : ℕ) (w : View) : Type 0 where
+  pub called : Called v [] w
+  pub leaves : LeavesOwn v w
+  pub known : (least ≡ 0) ⊎ Has w.facts (fact.Count least)
+  pub low : least ≤ (sizes_in v.opening).objects

@@ -25,7 +25,7 @@ pub fn link_global(shared: &Shared, s: &mut Session, g: u32, target: Option<u32>
     ensures empty { (result ≡ reply.Empty) ↔ IsUnheld (view s.old) target }
     ensures kinds { (result ≡ reply.Empty) ⊎ (result ≡ reply.Ok) }
 {
-    let word = match target_word(s, target) {
+    let word = match target_word(shared, s, target) {
         None => return Reply::Empty,
         Some(word) => word,
     };

@@ -1,5 +1,5 @@
 // Calls that link and fetch references.
-ghost use Rattle.std.specs.Prelude.{◌≡◌, ◌≢◌, ◌⊎◌, ◌↔◌, ◌+◌, ◌<◌, ◌≤◌, ◌∷◌, None, Some, IfSome, ℕ};
+ghost use Rattle.std.specs.Prelude.{◌≡◌, ◌≢◌, ◌⊎◌, ◌↔◌, ◌+◌, ◌<◌, ◌≤◌, [], ◌∷◌, None, Some, IfSome, ℕ};
 ghost use Rattle.std.specs.Option.{option_map_or};
 ghost use Rattle.plain_table.specs.declared.scripts.Op.TheVariants as op;
 ghost use Rattle.plain_table.specs.declared.events.Spot.TheVariants.{Ref};
@@ -27,7 +27,8 @@ pub struct Linked {
 }
 
 /// The word of what a link names: 0 for none, and else the number of the object plus 1. None where the named variable holds nothing.
-pub(crate) fn target_word(s: &Session, target: Option<u32>) -> Option<u32>
+pub(crate) fn target_word(shared: &Shared, s: &Session, target: Option<u32>) -> Option<u32>
+    requires caller { IsOf shared.now s.now }
     requires target { IfSome target (λ var. var < 16) }
     ensures word { IfSome result (IsTarget (view s.now) target) }
     ensures none { (result ≡ None) ↔ IsUnheld (view s.now) target }
@@ -95,16 +96,25 @@ pub fn link(shared: &Shared, s: &mut Session, var: u32, k: u32, target: Option<u
     ensures covered { result.reply ≡ reply.Ok → phase_of (view s.old).opening ≡ 1 → IfSome (target_in (view s.old) target) (λ q. Has (view s.new).facts (fact.Shaded q)) }
 {
     let object = match s.held(var) {
-        None => return Linked { reply: Reply::Empty, shaded: None },
+        None => return Linked {
+            reply: Reply::Empty,
+            shaded: None,
+        },
         Some(object) => object,
     };
-    let word = match target_word(s, target) {
-        None => return Linked { reply: Reply::Empty, shaded: None },
+    let word = match target_word(shared, s, target) {
+        None => return Linked {
+            reply: Reply::Empty,
+            shaded: None,
+        },
         Some(word) => word,
     };
     let shaded = shade_target(shared, s, word);
     link_reference(shared, s, object, k, target, word);
-    Linked { reply: Reply::Ok, shaded }
+    Linked {
+        reply: Reply::Ok,
+        shaded,
+    }
 }
 
 /// Fetches what reference `k`, below 4, of the object of the variable `var` holds into the variable `into`; variables are below 16.

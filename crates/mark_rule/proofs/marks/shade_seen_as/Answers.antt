@@ -1,5 +1,4 @@
-use Rattle.std.proofs.Common.{◌<◌, ◌∙◌, ap, subst, refl, arith, bit_or}
-use Rattle.entry_base.specs.Openings.{sizes_in}
+use Rattle.std.proofs.Common.{◌∙◌, refl, arith, bit_or}
 use Rattle.entry_base.proofs.Steps.{learned_at}
 use Rattle.entry_base.proofs.TiedParts.{tied_stays}
 use Rattle.mark_rule.specs.Marking.{Shaded}
