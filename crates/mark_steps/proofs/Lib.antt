@@ -1,5 +1,7 @@
-pub mod Words
-pub mod Marks
+pub mod SeenWords
+pub mod MarkTurns
 pub mod MarkParts
-pub mod Evacuations
+pub mod SharedMarks
+pub mod EvacuationTurns
 pub mod EvacuationParts
+pub mod EvacuationWays

@@ -37,7 +37,7 @@ use Rattle.call_base.specs.Called.{Called, EndsWith, LeavesOwn}
 use Rattle.call_base.proofs.CallsInOrder.{EndsWith-last, called_extends, called_then}
 use Rattle.call_base.proofs.HistoriesStay.{start_after}
 use Rattle.mark_steps.specs.Evacuations.{Adds, IsAborted, OneThenOne}
-use Rattle.mark_steps.proofs.Marks.{own_stays}
+use Rattle.mark_steps.proofs.MarkTurns.{own_stays}
 
 -- an area begins at an index other than 0
 pub start_some : (key : Opening) (start : ℕ) → start_of key ≡ Some start → start ≢ 0
@@ -63,6 +63,9 @@ module _ (w : View) (number word start : ℕ) (area : start_of w.opening ≡ Som
 
   pub unmoved_aborted : Has w.facts fact.Aborted → WillNotMove w (field.External number) word
   unmoved_aborted aborted = unmoved (inr (inl aborted))
+
+  pub unmoved_placed : Has w.facts (fact.Placed (field.External number) word) → WillNotMove w (field.External number) word
+  unmoved_placed placed = unmoved (inr (inr placed))
 
 -- the claim that was taken is given up again
 same_number : (n : ℕ) → (n == n) ≡ true
@@ -110,9 +113,9 @@ aborted_by : (x : Option Cycle) (start : ℕ) → start_in (aborted_in x) ≡ So
 aborted_by None start is = absurd (cc)
 aborted_by (Some c) start is = refl
 
-pub aborted_after : (key : Opening) (seen : List Event) (b n start : ℕ) → ∥ IsOpenable key ∥₁ → start_of key ≡ Some start → IsPhaseHistory key seen
+pub aborted_after : (key : Opening) (seen : List Event) (n start : ℕ) → ∥ IsOpenable key ∥₁ → start_of key ≡ Some start → IsPhaseHistory key seen
     → EndsWith (record { by = n; act = act.Abort; said = reply.Ok } ∷ []) seen → IsAborted key seen
-aborted_after key seen b n start openable area lawful ends t base =
+aborted_after key seen n start openable area lawful ends t base =
     let e : Event = record { by = n; act = act.Abort; said = reply.Ok } in
     let same = ap (after t) ends.1 ∙ after-append t ends.0 (e ∷ []) in
     subst (λ s. IsSomeAnd s.cycle (λ c. IsTrue c.aborted)) (sym same)

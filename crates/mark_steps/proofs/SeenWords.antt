@@ -1,8 +1,10 @@
 -- What a session saw by a load of a field, and what stays seen.
 use Rattle.std.proofs.Common.{◌≡◌, ◌≢◌, ℕ, zero, suc, ◌+◌, Bool, true, List, [], ◌∷◌, ◌++◌, Option, Some, None, IsTrue, IsSome, refl, sym, ap, subst, ◌∙◌, inl, inr, arith}
+use Rattle.plain_table.specs.declared.events.Event.{Event}
 use Rattle.plain_table.specs.declared.events.Field.{Field}
 use Rattle.plain_table.specs.Index.{index_of}
 use Rattle.plain_table.specs.Places.{space_of}
+use Rattle.plain_table.specs.Cycle.{HasStood}
 use Rattle.plain_table.specs.History.{after}
 use Rattle.plain_table.specs.Scans.{IsReadConcurrently}
 use Rattle.plain_table.specs.Table.{Table, limit_in}
@@ -17,7 +19,7 @@ use Rattle.entry_base.specs.Callers.{IsCaller}
 use Rattle.entry_base.specs.Facts.{TableKnows}
 use Rattle.entry_base.specs.Histories.{IsPhaseHistory}
 use Rattle.entry_base.specs.Lists.{Has}
-use Rattle.entry_base.specs.Openings.{IsBase, sizes_in}
+use Rattle.entry_base.specs.Openings.{IsBase, IsOpenable, sizes_in}
 use Rattle.entry_base.proofs.Sums.{each_has}
 use Rattle.mark_rule.specs.Marking.{HoldsAt, ReferenceLoaded, StandsIn, WordLoaded, is_out, out_facts, reference_facts, word_facts}
 use Rattle.call_base.specs.Called.{Called}
@@ -26,6 +28,14 @@ use Rattle.mark_steps.specs.Words.{RefersTo, Saw}
 
 pub lawful_of : (key : Opening) (v : View) → IsCaller key v → IsPhaseHistory v.opening v.seen
 lawful_of key v caller = subst (λ o. IsPhaseHistory o v.seen) (sym caller.opened) caller.lawful
+
+-- there is a table that the phase of the view may have begun in
+pub openable_of : (key : Opening) (v : View) → ∥ IsOpenable key ∥₁ → IsCaller key v → ∥ IsOpenable v.opening ∥₁
+openable_of key v openable caller = subst (λ o. ∥ IsOpenable o ∥₁) (sym caller.opened) openable
+
+-- and after a call
+pub lawful_after : (key : Opening) (v w : View) (own : List Event) → Called v own w → IsCaller key w → IsPhaseHistory v.opening w.seen
+lawful_after key v w own c caller = subst (λ o. IsPhaseHistory o w.seen) c.same.opening (lawful_of key w caller)
 
 has_front : (xs ys : List Fact) (x : Fact) → Has xs x → Has (xs ++ ys) x
 has_front [] ys x h = absurd h
@@ -47,29 +57,30 @@ outs_there : (limit : ℕ) (f : Field) (w : ℕ) → IsTrue (is_out limit w) →
 outs_there limit f zero is = let h = out_there (is_out limit 0) f 0 is in (inr h.0, inr h.1)
 outs_there limit f (suc n) is = let h = out_there (is_out limit (suc n)) f (suc n) is in (inr (inr h.0), inr (inr h.1))
 
-pub saw_loaded : (v w : View) (f : Field) (found : ℕ) → WordLoaded v (limit_in (sizes_in v.opening) (space_of f)) f found w → Saw w f found
-saw_loaded v w f found l = record {
-  read = has _ (read_there limit f found);
-  touched = λ some. has _ (touched_there limit f found some);
-  out = λ is. let h = outs_there limit f found (subst (λ o. IsTrue (is_out (limit_in (sizes_in o) (space_of f)) found)) l.loaded.same.opening is) in (has _ h.0, has _ h.1);
-  stood = λ b base. stood_at b (subst (λ o. IsBase o b) l.loaded.same.opening base);
-}
-  where
-    abbrev limit : ℕ
-    limit = limit_in (sizes_in v.opening) (space_of f)
+module _ (v w : View) (f : Field) (found : ℕ) (l : WordLoaded v (limit_in (sizes_in v.opening) (space_of f)) f found w) where
+  abbrev limit : ℕ
+  limit = limit_in (sizes_in v.opening) (space_of f)
 
-    has : (x : Fact) → Has (word_facts limit f found) x → Has w.facts x
-    has x h = subst (λ fs. Has fs x) (sym l.loaded.facts) (has_front (word_facts limit f found) v.facts x h)
+  has : (x : Fact) → Has (word_facts limit f found) x → Has w.facts x
+  has x h = subst (λ fs. Has fs x) (sym l.loaded.facts) (has_front (word_facts limit f found) v.facts x h)
 
-    stood_at : (b : Table) → IsBase v.opening b → IsReadConcurrently (after b w.seen) f found
-    stood_at b base =
-        let s : Table = after b w.seen in
-        let sure = l.loaded.looks.sure b base in
-        let c = IsSome-value s.cycle (IsSomeAnd-some s.cycle _ (each_has (TableKnows s) w.facts (fact.Read f found) sure.knows (has _ (read_there limit f found)))) in
-        IsSomeAnd-by s.cycle c.0 _ c.1 (subst (λ (n : ℕ). (c.0.words f ≡ n) ⊎ IsTrue (c.0.came f n)) (l.stands b base) ((CycleSound-is s c.0 sure.sound c.1).touched.stood f))
+  stood_at : (b : Table) → IsBase v.opening b → IsReadConcurrently (after b w.seen) f found
+  stood_at b base =
+      let s : Table = after b w.seen in
+      let sure = l.loaded.looks.sure b base in
+      let c = IsSome-value s.cycle (IsSomeAnd-some s.cycle _ (each_has (TableKnows s) w.facts (fact.Read f found) sure.knows (has _ (read_there limit f found)))) in
+      IsSomeAnd-by s.cycle c.0 _ c.1 (subst (λ (n : ℕ). HasStood c.0 f n) (l.stands b base) ((CycleSound-is s c.0 sure.sound c.1).touched.stood f))
+
+  pub saw_loaded : Saw w f found
+  saw_loaded = record {
+    read = has _ (read_there limit f found);
+    touched = λ some. has _ (touched_there limit f found some);
+    out = λ is. let h = outs_there limit f found (subst (λ o. IsTrue (is_out (limit_in (sizes_in o) (space_of f)) found)) l.loaded.same.opening is) in (has _ h.0, has _ h.1);
+    stood = λ b base. stood_at b (subst (λ o. IsBase o b) l.loaded.same.opening base);
+  }
 
 -- what was seen stays seen
-pub Saw-stays : (v w : View) (own : List _) (f : Field) (word : ℕ) → Called v own w → IsPhaseHistory v.opening w.seen → Saw v f word → Saw w f word
+pub Saw-stays : (v w : View) (own : List Event) (f : Field) (word : ℕ) → Called v own w → IsPhaseHistory v.opening w.seen → Saw v f word → Saw w f word
 Saw-stays v w own f word c lawful saw = record {
   read = c.same.knows _ saw.read;
   touched = λ some. c.same.knows _ (saw.touched some);
@@ -87,7 +98,7 @@ object_is None (Some b) is = absurd (omega (arith, is))
 object_is (Some a) None is = absurd (omega (arith, is))
 object_is (Some a) (Some b) is = ap Some (omega (arith, is))
 
-pub refers : (key : Opening) (h : List _) (o k found : ℕ) (held : Option ℕ) → HoldsAt key h o k found → found ≡ object_word held → RefersTo key h o k held
+pub refers : (key : Opening) (h : List Event) (o k found : ℕ) (held : Option ℕ) → HoldsAt key h o k found → found ≡ object_word held → RefersTo key h o k held
 refers key h o k found held holds is b base = object_is ((after b h).refs o k) held (holds b base ∙ is)
 
 pub reference_known : (v w : View) (o k found : ℕ) (held : Option ℕ) → ReferenceLoaded v o k found w → found ≡ object_word held → Has w.facts (fact.Reference o k (object_word held))

@@ -1,12 +1,12 @@
 -- The ways through a mark: the load finds no cell, or a marked one; or the exchange sets the mark, or finds it set.
-use Rattle.std.proofs.Common.{◌≡◌, ◌≢◌, ℕ, ◌+◌, ◌/◌, ◌%◌, ◌^◌, ◌<◌, ◌==◌, Bool, true, false, if◌then◌else◌, List, [], ◌∷◌, ◌++◌, IsTrue, IsSome, refl, sym, ap, subst, ◌∙◌, inl, inr, arith, append_assoc}
+use Rattle.std.proofs.Common.{◌≡◌, ◌≢◌, ℕ, ◌+◌, ◌/◌, ◌%◌, ◌^◌, ◌<◌, ◌≤◌, ◌==◌, Bool, true, false, if◌then◌else◌, List, [], ◌∷◌, ◌++◌, IsTrue, IsSome, refl, sym, ap, subst, ◌∙◌, inl, inr, arith, append_assoc}
 use Rattle.std.proofs.lemmas.Bool.Decides.{nat_tests}
 use Rattle.plain_table.specs.declared.events.Act.TheVariants as act
 use Rattle.plain_table.specs.declared.events.Event.{Event}
 use Rattle.plain_table.specs.declared.events.Field.{Field}
 use Rattle.plain_table.specs.declared.events.Space.{Space}
 use Rattle.plain_table.specs.declared.reports.Reply.TheVariants as reply
-use Rattle.plain_table.specs.History.{after}
+use Rattle.plain_table.specs.History.{IsLegalHistory, after}
 use Rattle.plain_table.specs.Index.{index_of}
 use Rattle.plain_table.specs.Places.{space_of}
 use Rattle.plain_table.specs.Table.{limit_in}
@@ -19,7 +19,7 @@ use Rattle.entry_base.specs.Callers.{Extends, SameCaller, event_of}
 use Rattle.entry_base.specs.Lists.{Has, StartsWith, count_in}
 use Rattle.entry_base.specs.Numbers.{HasNumber}
 use Rattle.entry_base.specs.Openings.{IsBase, sizes_in}
-use Rattle.mark_rule.specs.Marking.{EntryLoaded, HasMarkAfter, IsMarkedWord, MarkExchanged, MarkLoaded, Marked, SomeThere, entry_facts}
+use Rattle.mark_rule.specs.Marking.{EntryLoaded, HasMarkAfter, IsMarkedWord, MarkExchanged, MarkLoaded, Marked, NoneThere, SomeThere}
 use Rattle.call_base.specs.Called.{Called, EndsWith, LeavesOwn}
 use Rattle.call_base.proofs.CallsInOrder.{called_extends, called_looks, called_then}
 use Rattle.call_base.proofs.HistoriesStay.{legal_rest}
@@ -33,7 +33,7 @@ own_stays v w same own = subst (λ n. 1 ≤ count_in n w.numbers) (sym same.numb
 mark_found : (v w : View) (p : Space) (i : ℕ) (had : Bool) (m : Marked v p i had w) → SomeThere v.opening m.before p i
 mark_found v w p i had m b base =
     let s = after b m.before in
-    let legal = (legal_rest b m.before (event_of v (act.Mark p i) reply.Ok ∷ []) (subst (λ h. _) m.last (m.extends.lawful.legal b base))).0 in
+    let legal = (legal_rest b m.before (event_of v (act.Mark p i) reply.Ok ∷ []) (subst (IsLegalHistory b) m.last (m.extends.lawful.legal b base))).0 in
     let c = IsSome-value s.cycle (IsSomeAnd-some s.cycle _ legal.0) in
     (IsSomeAnd-is s.cycle _ c.0 c.1 legal.0).0
 
@@ -52,17 +52,8 @@ module _ (v : View) (f : Field) (word found : ℕ) (w : View) (own : HasNumber v
     pub none_called : Called v [] w
     none_called = called_looks v w own none.loaded.same none.loaded.looks
 
-    pub none_visited : Has w.facts (fact.Visited p i)
-    none_visited = subst (λ fs. Has fs (fact.Visited p i)) (sym none.loaded.facts) (visited (tag_bits found == 0) (let t : (tag_bits found == 0) ≡ true = grind (arith, nat_tests) in t))
-      where
-        visited : (b : Bool) → b ≡ true → Has ((if b then fact.Visited p i ∷ fact.Placed f word ∷ [] else fact.Entry p i (found % 2 ^ 62) ∷ []) ++ v.facts) (fact.Visited p i)
-        visited true is = inl refl
-        visited false is = absurd (cc)
-
-    pub none_leaves : LeavesOwn v w
-    none_leaves = record { own = none.loaded.own; hands = none.loaded.hands }
-
-    pub none_cause = none.none untagged
+    pub none_cause : NoneThere v.opening w.seen p i
+    none_cause = none.none untagged
 
   -- the load finds the mark
   module _ (is : IsMarkedWord found) where
@@ -71,12 +62,6 @@ module _ (v : View) (f : Field) (word found : ℕ) (w : View) (own : HasNumber v
 
     pub load_called : Called v (event_of v (act.Mark p i) reply.Ok ∷ []) w
     load_called = called_extends v w (event_of v (act.Mark p i) reply.Ok) refl own found_mark.same found_mark.extends
-
-    pub load_ends : EndsWith (event_of v (act.Mark p i) reply.Ok ∷ []) w.seen
-    load_ends = (found_mark.before, found_mark.last)
-
-    pub load_leaves : LeavesOwn v w
-    load_leaves = record { own = found_mark.own; hands = found_mark.hands }
 
     pub load_cause : HadMark v p i true w
     load_cause = record {
@@ -91,8 +76,6 @@ module _ (v : View) (f : Field) (word found : ℕ) (w : View) (own : HasNumber v
       last = found_mark.last;
       was = found_mark.was;
     }
-
-    pub load_knows = found_mark.knows
 
   -- the exchange is made
   module _ (tagged : tag_bits found ≢ 0) (unmarked : IsMarkedWord found → ⊥) (entry got : ℕ) (u : View) (x : MarkExchanged w p i entry got u) where
@@ -112,20 +95,6 @@ module _ (v : View) (f : Field) (word found : ℕ) (w : View) (own : HasNumber v
     last : u.seen ≡ marked.before ++ e ∷ []
     last = subst (λ b. u.seen ≡ marked.before ++ record { by = b; act = act.Mark p i; said = reply.Ok } ∷ []) stands.loaded.same.number marked.last
 
-    pub exchange_ends : EndsWith (e ∷ []) u.seen
-    exchange_ends = (marked.before, last)
-
-    pub exchange_leaves : LeavesOwn v u
-    exchange_leaves = record {
-      own = record {
-        vars = marked.own.vars ∙ stands.loaded.own.vars;
-        pending = marked.own.pending ∙ stands.loaded.own.pending;
-        owed = marked.own.owed ∙ stands.loaded.own.owed;
-        fresh = marked.own.fresh ∙ stands.loaded.own.fresh;
-      };
-      hands = marked.hands ∙ stands.loaded.hands;
-    }
-
     pub exchange_cause : (had : Bool) → has_mark got ≡ had → HadMark v p i had u
     exchange_cause had is = record {
       found = record {
@@ -140,4 +109,18 @@ module _ (v : View) (f : Field) (word found : ℕ) (w : View) (own : HasNumber v
       was = subst (HasMarkAfter v.opening marked.before p i) is (subst (λ o. HasMarkAfter o marked.before p i (has_mark got)) stands.loaded.same.opening marked.was);
     }
 
-    pub exchange_knows = marked.knows
+-- the limit of the space of a field, and the bits of entry words
+pub below_as : (v : View) (f : Field) (p : Space) (i : ℕ) → space_of f ≡ p → i < limit_in (sizes_in v.opening) p → i < limit_in (sizes_in v.opening) (space_of f)
+below_as v f p i spaced below = subst (λ q. i < limit_in (sizes_in v.opening) q) (sym spaced) below
+
+pub marked_word : (found : ℕ) → tag_bits found ≢ 0 → found / 2 ^ 62 % 2 ≡ 1 → IsMarkedWord found
+marked_word found tagged bit = (tagged, (let t : has_mark found ≡ true = grind (arith, nat_tests) in t))
+
+pub no_mark_word : (found : ℕ) → found / 2 ^ 62 % 2 ≢ 1 → IsMarkedWord found → ⊥
+no_mark_word found bit is = bit (let t : has_mark found ≡ true = is.1 in grind (arith, nat_tests))
+
+pub clear_word : (n : ℕ) → n < 2 ^ 62 → has_mark n ≡ false
+clear_word n low = let ne : n / 2 ^ 62 % 2 ≢ 1 = λ e. absurd (omega (arith, low, e)) in let t : has_mark n ≡ false = grind (arith, nat_tests) in t
+
+pub exchanged_as : (v : View) (f : Field) (p : Space) (i entry got : ℕ) (w : View) → space_of f ≡ p → MarkExchanged v p i entry got w → MarkExchanged v (space_of f) i entry got w
+exchanged_as v f p i entry got w spaced x = subst (λ q. MarkExchanged v q i entry got w) (sym spaced) x
