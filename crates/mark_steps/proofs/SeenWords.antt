@@ -37,6 +37,10 @@ openable_of key v openable caller = subst (λ o. ∥ IsOpenable o ∥₁) (sym c
 pub lawful_after : (key : Opening) (v w : View) (own : List Event) → Called v own w → IsCaller key w → IsPhaseHistory v.opening w.seen
 lawful_after key v w own c caller = subst (λ o. IsPhaseHistory o w.seen) c.same.opening (lawful_of key w caller)
 
+-- a view of the same table
+pub opened_lawful : (key : Opening) (v w : View) → IsCaller key v → IsCaller key w → IsPhaseHistory v.opening w.seen
+opened_lawful key v w caller later = subst (λ o. IsPhaseHistory o w.seen) (later.opened ∙ sym caller.opened) (lawful_of key w later)
+
 has_front : (xs ys : List Fact) (x : Fact) → Has xs x → Has (xs ++ ys) x
 has_front [] ys x h = absurd h
 has_front (y ∷ xs) ys x (inl e) = inl e
