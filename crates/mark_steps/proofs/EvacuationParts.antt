@@ -1,23 +1,21 @@
 -- An evacuation is a part of a scan: the cell need not move; or an index below the area is taken and filled; or none is free, and
 -- the compaction is aborted.
-use Rattle.std.proofs.Common.{◌≡◌, ◌≢◌, ℕ, ◌+◌, ◌*◌, ◌<◌, ◌≤◌, nat_le, Bool, true, false, List, [], ◌∷◌, ◌++◌, Option, Some, None, IfSome, IsSome, IsTrue, refl, sym, ap, subst, ◌∙◌, inl, inr, arith, append_assoc}
-use Rattle.std.specs.Prelude.{◌⊎◌}
+use Rattle.std.proofs.Common.{◌≡◌, ℕ, ◌<◌, ◌≤◌, nat_le, true, false, List, [], ◌∷◌, ◌++◌, Option, Some, None, IfSome, IsSome, refl, sym, ap, subst, ◌∙◌, inl, inr, arith, append_assoc}
 use Rattle.std.proofs.lemmas.Bool.Decides.{nat_tests}
 use Rattle.plain_table.specs.declared.events.Act.TheVariants as act
 use Rattle.plain_table.specs.declared.events.Event.{Event}
 use Rattle.plain_table.specs.declared.events.Field.{Field}
 use Rattle.plain_table.specs.declared.events.Space.TheVariants.{External}
 use Rattle.plain_table.specs.declared.reports.Reply.TheVariants as reply
-use Rattle.plain_table.specs.Cycle.{is_from, start_in}
+use Rattle.plain_table.specs.Cycle.{is_from}
 use Rattle.plain_table.specs.History.{after}
 use Rattle.plain_table.specs.Index.{index_of}
 use Rattle.plain_table.specs.Scans.{Visit, Move, Fill, GiveUp, Stays, Takes, Fills, Fails, Aborts, IsInArea, NeedNotMove}
 use Rattle.plain_table.specs.Table.{Table, limit_in}
-use Rattle.entry_base.specs.declared.view.Opening.{Opening}
 use Rattle.entry_base.specs.declared.view.View.{View}
 use Rattle.entry_base.specs.Histories.{IsPhaseHistory}
 use Rattle.entry_base.specs.Openings.{IsBase, IsOpenable, sizes_in, start_of}
-use Rattle.mark_rule.specs.Marking.{NoneThere, SomeThere}
+use Rattle.mark_rule.specs.Marking.{SomeThere}
 use Rattle.call_base.specs.Called.{Called}
 use Rattle.call_base.specs.ScanParts.{ScanPart}
 use Rattle.call_base.proofs.HistoriesStay.{cells_later, lawful_front, start_after}

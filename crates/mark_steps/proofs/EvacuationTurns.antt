@@ -1,12 +1,11 @@
 -- The ways through an evacuation: what it leaves, and that the field will not move without its entry.
-use Rattle.std.proofs.Common.{◌≡◌, ◌≢◌, ℕ, ◌+◌, ◌%◌, ◌^◌, ◌<◌, ◌≤◌, ◌==◌, Bool, true, false, if◌then◌else◌, List, [], ◌∷◌, ◌++◌, Option, Some, None, IfSome, IsTrue, IsSome, IsSomeAnd, slice_index, refl, sym, ap, subst, ◌∙◌, inl, inr, arith, append_assoc}
+use Rattle.std.proofs.Common.{◌≡◌, ◌≢◌, ℕ, ◌%◌, ◌^◌, ◌<◌, ◌==◌, Bool, true, false, if◌then◌else◌, List, [], ◌∷◌, Option, Some, None, IfSome, IsTrue, IsSomeAnd, slice_index, refl, sym, ap, subst, ◌∙◌, inl, inr, arith}
 use Rattle.std.specs.Prelude.{◌⊎◌, ◌&&◌}
 use Rattle.std.proofs.lemmas.Bool.Decides.{nat_tests}
 use Rattle.plain_table.specs.declared.events.Act.{Act}
 use Rattle.plain_table.specs.declared.events.Act.TheVariants as act
 use Rattle.plain_table.specs.declared.events.Event.{Event}
 use Rattle.plain_table.specs.declared.events.Field.TheVariants as field
-use Rattle.plain_table.specs.declared.events.Space.{Space}
 use Rattle.plain_table.specs.declared.events.Space.TheVariants.{External}
 use Rattle.plain_table.specs.declared.reports.Reply.{Reply}
 use Rattle.plain_table.specs.declared.reports.Reply.TheVariants as reply
@@ -14,30 +13,27 @@ use Rattle.plain_table.specs.Cycle.{Cycle, aborted_in, start_in}
 use Rattle.plain_table.specs.History.{after}
 use Rattle.plain_table.specs.Index.{index_of}
 use Rattle.plain_table.specs.Places.{same_space}
-use Rattle.plain_table.specs.Table.{Table}
 use Rattle.plain_table.specs.Words.{area_place}
 use Rattle.plain_table.proofs.CallsMade.{after-append}
 use Rattle.entry_base.specs.declared.view.Claim.{Claim}
 use Rattle.entry_base.specs.declared.view.Fact.TheVariants as fact
 use Rattle.entry_base.specs.declared.view.Opening.{Opening}
 use Rattle.entry_base.specs.declared.view.View.{View}
-use Rattle.entry_base.specs.Callers.{Extends, Looks, SameCaller, event_of}
+use Rattle.entry_base.specs.Callers.{Looks, SameCaller, event_of}
 use Rattle.entry_base.specs.Facts.{TableKnows}
 use Rattle.entry_base.specs.Histories.{IsPhaseHistory}
 use Rattle.entry_base.specs.Lists.{Has}
-use Rattle.entry_base.specs.Numbers.{HasNumber}
-use Rattle.entry_base.specs.Openings.{IsBase, IsOpenable, start_of}
-use Rattle.entry_base.specs.Owns.{claim_of, without_claim}
+use Rattle.entry_base.specs.Openings.{IsOpenable, start_of}
+use Rattle.entry_base.specs.Owns.{without_claim}
 use Rattle.entry_base.specs.Passed.{WillNotMove}
 use Rattle.entry_base.proofs.Sums.{each_has}
 use Rattle.entry_rule.specs.Entries.{Evacuated}
 use Rattle.space_steps.specs.declared.tickets.Ticket.{Ticket}
 use Rattle.space_steps.specs.Tickets.{OwesIndex}
 use Rattle.call_base.specs.Called.{Called, EndsWith, LeavesOwn}
-use Rattle.call_base.proofs.CallsInOrder.{EndsWith-last, called_extends, called_then}
+use Rattle.call_base.proofs.CallsInOrder.{EndsWith-last, called_then}
 use Rattle.call_base.proofs.HistoriesStay.{start_after}
 use Rattle.mark_steps.specs.Evacuations.{Adds, IsAborted, OneThenOne}
-use Rattle.mark_steps.proofs.MarkTurns.{own_stays}
 
 -- an area begins at an index other than 0
 pub start_some : (key : Opening) (start : ℕ) → start_of key ≡ Some start → start ≢ 0

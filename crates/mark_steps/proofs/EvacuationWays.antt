@@ -1,9 +1,8 @@
 -- The ways through an evacuation whose loads found a cell in the area: the area word says that the compaction is aborted, or an
 -- index below the area is taken, or none is free.
-use Rattle.std.proofs.Common.{◌≡◌, ◌≢◌, ℕ, zero, suc, ◌+◌, ◌*◌, ◌/◌, ◌^◌, ◌<◌, ◌≤◌, ◌==◌, if◌then◌else◌, Bool, true, false, List, [], ◌∷◌, ◌++◌, Some, IfSome, refl, sym, ap, subst, ◌∙◌, inl, inr, arith, append-nil}
+use Rattle.std.proofs.Common.{◌≡◌, ◌≢◌, ℕ, zero, suc, ◌+◌, ◌*◌, ◌/◌, ◌^◌, ◌<◌, ◌≤◌, ◌==◌, if◌then◌else◌, Bool, true, false, List, [], ◌∷◌, ◌++◌, Some, IfSome, refl, sym, ap, subst, inl, inr, arith, append-nil}
 use Rattle.std.proofs.lemmas.Bool.Decides.{nat_tests}
 use Rattle.plain_table.specs.declared.events.Act.TheVariants as act
-use Rattle.plain_table.specs.declared.events.Event.{Event}
 use Rattle.plain_table.specs.declared.events.Field.{Field}
 use Rattle.plain_table.specs.declared.events.Field.TheVariants as field
 use Rattle.plain_table.specs.declared.events.Space.TheVariants.{External}
@@ -28,8 +27,8 @@ use Rattle.call_base.specs.ScanParts.{ScanPart}
 use Rattle.call_base.proofs.CallsInOrder.{called_looks, called_trans}
 use Rattle.mark_steps.specs.declared.answers.Evacuated.{Evacuated}
 use Rattle.mark_steps.specs.declared.answers.Evacuated.TheVariants as evacuated
-use Rattle.mark_steps.specs.Evacuations.{HasToMove, IsAborted, IsEvacuatedBy, IsPlacedBy, OneThenOne, StaysThere, WasUnaborted}
-use Rattle.mark_steps.proofs.EvacuationParts.{aborted_part, failed_part, placed_part, stays_part}
+use Rattle.mark_steps.specs.Evacuations.{HasToMove, IsAborted, IsEvacuatedBy, IsPlacedBy, StaysThere, WasUnaborted}
+use Rattle.mark_steps.proofs.EvacuationParts.{aborted_part, failed_part, placed_part}
 use Rattle.mark_steps.proofs.EvacuationTurns.{aborted_after, aborted_known, adds_two, unmoved_aborted, unmoved_placed}
 use Rattle.mark_steps.proofs.MarkTurns.{own_stays}
 

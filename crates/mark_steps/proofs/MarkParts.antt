@@ -1,6 +1,6 @@
 -- A mark is a part of a scan: it passes over a word that names no cell, or makes the mark.
-use Rattle.std.proofs.Common.{◌≡◌, ◌≢◌, ℕ, ◌+◌, ◌<◌, ◌≤◌, ◌==◌, nat_le, Bool, true, false, List, [], ◌∷◌, ◌++◌, Option, None, IsSome, refl, sym, ap, subst, ◌∙◌, inl, inr, arith, append_assoc}
-use Rattle.std.specs.Prelude.{◌⊎◌, ◌||◌}
+use Rattle.std.proofs.Common.{◌≡◌, ℕ, ◌≤◌, ◌==◌, nat_le, Bool, true, false, List, [], ◌∷◌, ◌++◌, refl, sym, ap, subst, ◌∙◌, inl, inr, arith}
+use Rattle.std.specs.Prelude.{◌||◌}
 use Rattle.std.proofs.lemmas.Bool.Decides.{nat_tests}
 use Rattle.plain_table.specs.declared.events.Event.{Event}
 use Rattle.plain_table.specs.declared.events.Field.{Field}
@@ -48,8 +48,8 @@ module _ (v w : View) (o : ℕ) (f : Field) (word : ℕ) (saw : Saw v f word) (l
   none_part : Called v [] w → NoneThere v.opening w.seen (space_of f) (index_of word) → ScanPart v (Visit o (f ∷ fields)) w (marked_at o fields f word) []
   none_part c none = part_turn v w _ _ _ [] (part_still v w (Visit o (f ∷ fields)) c)
       (λ b base. Passes o f word fields
-        (subst (λ h. IsReadConcurrently (after b h) f word) (sym c.seen) (read_later v f word c.grown saw (subst (IsPhaseHistory v.opening) c.seen lawful) b base))
-        (none b base))
+      (subst (λ h. IsReadConcurrently (after b h) f word) (sym c.seen) (read_later v f word c.grown saw (subst (IsPhaseHistory v.opening) c.seen lawful) b base))
+      (none b base))
 
   pub mark_part : (said : Mark) → Called v (mark_events v (space_of f) (index_of word) said) w → IsMarkCause v (space_of f) (index_of word) said w
       → ScanPart v (Visit o (f ∷ fields)) w (marked_at o fields f word) []

@@ -1,5 +1,5 @@
 -- The ways through a mark: the load finds no cell, or a marked one; or the exchange sets the mark, or finds it set.
-use Rattle.std.proofs.Common.{◌≡◌, ◌≢◌, ℕ, ◌+◌, ◌/◌, ◌%◌, ◌^◌, ◌<◌, ◌≤◌, ◌==◌, Bool, true, false, if◌then◌else◌, List, [], ◌∷◌, ◌++◌, IsTrue, IsSome, refl, sym, ap, subst, ◌∙◌, inl, inr, arith, append_assoc}
+use Rattle.std.proofs.Common.{◌≡◌, ◌≢◌, ℕ, ◌/◌, ◌%◌, ◌^◌, ◌<◌, ◌≤◌, Bool, true, false, [], ◌∷◌, ◌++◌, refl, sym, subst, ◌∙◌, arith, append_assoc}
 use Rattle.std.proofs.lemmas.Bool.Decides.{nat_tests}
 use Rattle.plain_table.specs.declared.events.Act.TheVariants as act
 use Rattle.plain_table.specs.declared.events.Event.{Event}
@@ -12,18 +12,16 @@ use Rattle.plain_table.specs.Places.{space_of}
 use Rattle.plain_table.specs.Table.{limit_in}
 use Rattle.plain_table.proofs.Options.{IsSomeAnd-is, IsSomeAnd-some, IsSome-value}
 use Rattle.word_laws.specs.ReadLaws.{has_mark, tag_bits}
-use Rattle.entry_base.specs.declared.view.Fact.{Fact}
-use Rattle.entry_base.specs.declared.view.Fact.TheVariants as fact
 use Rattle.entry_base.specs.declared.view.View.{View}
-use Rattle.entry_base.specs.Callers.{Extends, SameCaller, event_of}
-use Rattle.entry_base.specs.Lists.{Has, StartsWith, count_in}
+use Rattle.entry_base.specs.Callers.{SameCaller, event_of}
+use Rattle.entry_base.specs.Lists.{count_in}
 use Rattle.entry_base.specs.Numbers.{HasNumber}
-use Rattle.entry_base.specs.Openings.{IsBase, sizes_in}
+use Rattle.entry_base.specs.Openings.{sizes_in}
 use Rattle.mark_rule.specs.Marking.{EntryLoaded, HasMarkAfter, IsMarkedWord, MarkExchanged, MarkLoaded, Marked, NoneThere, SomeThere}
-use Rattle.call_base.specs.Called.{Called, EndsWith, LeavesOwn}
+use Rattle.call_base.specs.Called.{Called}
 use Rattle.call_base.proofs.CallsInOrder.{called_extends, called_looks, called_then}
 use Rattle.call_base.proofs.HistoriesStay.{legal_rest}
-use Rattle.mark_steps.specs.Marks.{FoundCell, HadMark}
+use Rattle.mark_steps.specs.Marks.{HadMark}
 
 -- the number of a view stays its own
 pub own_stays : (v w : View) → SameCaller v w → HasNumber v v.number → HasNumber w w.number

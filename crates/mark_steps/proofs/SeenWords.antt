@@ -1,5 +1,5 @@
 -- What a session saw by a load of a field, and what stays seen.
-use Rattle.std.proofs.Common.{◌≡◌, ◌≢◌, ℕ, zero, suc, ◌+◌, Bool, true, List, [], ◌∷◌, ◌++◌, Option, Some, None, IsTrue, IsSome, refl, sym, ap, subst, ◌∙◌, inl, inr, arith}
+use Rattle.std.proofs.Common.{◌≡◌, ◌≢◌, ℕ, zero, suc, Bool, List, [], ◌∷◌, ◌++◌, Option, Some, None, IsTrue, refl, sym, ap, subst, ◌∙◌, inl, inr, arith}
 use Rattle.plain_table.specs.declared.events.Event.{Event}
 use Rattle.plain_table.specs.declared.events.Field.{Field}
 use Rattle.plain_table.specs.Index.{index_of}
@@ -21,7 +21,7 @@ use Rattle.entry_base.specs.Histories.{IsPhaseHistory}
 use Rattle.entry_base.specs.Lists.{Has}
 use Rattle.entry_base.specs.Openings.{IsBase, IsOpenable, sizes_in}
 use Rattle.entry_base.proofs.Sums.{each_has}
-use Rattle.mark_rule.specs.Marking.{HoldsAt, ReferenceLoaded, StandsIn, WordLoaded, is_out, out_facts, reference_facts, word_facts}
+use Rattle.mark_rule.specs.Marking.{HoldsAt, ReferenceLoaded, WordLoaded, is_out, out_facts, reference_facts, word_facts}
 use Rattle.call_base.specs.Called.{Called}
 use Rattle.call_base.proofs.HistoriesStay.{stood_later}
 use Rattle.mark_steps.specs.Words.{RefersTo, Saw}
@@ -94,24 +94,3 @@ Saw-stays v w own f word c lawful saw = record {
       subst (λ h. IsReadConcurrently (after b h) f word) (sym c.seen)
       (stood_later f word v.opening v.seen c.grown (subst (IsPhaseHistory v.opening) c.seen lawful) b at (saw.stood b at));
 }
-
--- what a reference held
-object_is : (x : Option ℕ) (y : Option ℕ) → object_word x ≡ object_word y → x ≡ y
-object_is None None is = refl
-object_is None (Some b) is = absurd (omega (arith, is))
-object_is (Some a) None is = absurd (omega (arith, is))
-object_is (Some a) (Some b) is = ap Some (omega (arith, is))
-
-pub refers : (key : Opening) (h : List Event) (o k found : ℕ) (held : Option ℕ) → HoldsAt key h o k found → found ≡ object_word held → RefersTo key h o k held
-refers key h o k found held holds is b base = object_is ((after b h).refs o k) held (holds b base ∙ is)
-
-pub reference_known : (v w : View) (o k found : ℕ) (held : Option ℕ) → ReferenceLoaded v o k found w → found ≡ object_word held → Has w.facts (fact.Reference o k (object_word held))
-reference_known v w o k found held l is =
-    subst (λ n. Has w.facts (fact.Reference o k n)) is (subst (λ fs. Has fs (fact.Reference o k found)) (sym l.loaded.facts) (has_front (reference_facts o k found) v.facts _ (go found)))
-  where
-    go : (n : ℕ) → Has (reference_facts o k n) (fact.Reference o k n)
-    go zero = inl refl
-    go (suc q) = inl refl
-
-pub target_traced : (v w : View) (o k q : ℕ) → ReferenceLoaded v o k (suc q) w → Has w.facts (fact.Traced q)
-target_traced v w o k q l = subst (λ fs. Has fs (fact.Traced q)) (sym l.loaded.facts) (inr (inl refl))

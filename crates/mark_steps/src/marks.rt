@@ -73,7 +73,11 @@ fn field_space(object: u32, f: u32) -> Space
     ensures space { space_of (field_of object f) ≡ result }
 {
     let _named = object;
-    if f < 2 { Space::External } else { Space::Trusted }
+    if f < 2 {
+        Space::External
+    } else {
+        Space::Trusted
+    }
 }
 
 /// Marks the cell at the entry that a word names which stood in a field.

@@ -1,4 +1,4 @@
-use Rattle.std.proofs.Common.{◌≡◌, ◌≢◌, ◌<◌, ◌≤◌, ◌*◌, ◌+◌, ◌∙◌, ℕ, ap, sym, subst, inl, inr, arith}
+use Rattle.std.proofs.Common.{◌≡◌, ◌≢◌, ◌*◌, ◌+◌, ap, inl, inr, arith}
 use Rattle.plain_table.specs.declared.events.Space.TheVariants.{External}
 use Rattle.plain_table.specs.Index.{index_of}
 use Rattle.plain_table.specs.Table.{limit_in}
@@ -8,7 +8,6 @@ use Rattle.entry_base.specs.Passed.{field_of}
 use Rattle.entry_base.specs.Sessions.{view}
 use Rattle.entry_base.proofs.OneByOne.{hands_within_limit}
 use Rattle.call_base.proofs.CallsInOrder.{called_none}
-use Rattle.mark_steps.specs.Evacuations.{StaysThere}
 use Rattle.mark_steps.proofs.EvacuationParts.{stays_part}
 use Rattle.mark_steps.proofs.EvacuationWays.{aborted_made, aborted_scans, area_called, below_stays, entry_called, external_space, none_stays, placed_made, placed_scans}
 use Rattle.mark_steps.proofs.SeenWords.{lawful_after, lawful_of, openable_of, opened_lawful}
@@ -79,7 +78,7 @@ returns-then-load_area-eq1-clause-part c fields =
     let external = external_space c.args.object c.args.f c.requires.few in
     let tagged : tag_bits c.load_entry-entry.result ≢ 0 = (let t = c.if-entry-eq0.false in λ e. absurd (omega (arith, t, e))) in
     let called = area_called (view c.args.s.now) _ _ (field_of c.args.object c.args.f) (2 * c.args.object + c.args.f) c.args.word c.args.start c.load_entry-entry.result c.load_area.result
-        external c.requires.caller.1.own c.load_entry-entry.ensures.learned tagged c.load_area.ensures.learned c.requires.area (omega (arith, from)) (omega (arith, l, within, same)) in
+    external c.requires.caller.1.own c.load_entry-entry.ensures.learned tagged c.load_area.ensures.learned c.requires.area (omega (arith, from)) (omega (arith, l, within, same)) in
     aborted_scans (view c.args.s.now) _ _ (field_of c.args.object c.args.f) (2 * c.args.object + c.args.f) c.args.word c.args.start c.load_entry-entry.result c.load_area.result
     external c.requires.caller.1.own c.load_entry-entry.ensures.learned tagged c.load_area.ensures.learned c.requires.area (omega (arith, from)) (omega (arith, l, within, same)) (omega (arith, set)) c.args.object fields
     (openable_of _ _ c.args.shared.now.openable c.requires.caller.1) (lawful_after _ _ _ _ called c.load_area.ensures.caller.1)

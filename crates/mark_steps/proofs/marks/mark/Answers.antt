@@ -1,4 +1,4 @@
-use Rattle.std.proofs.Common.{◌≡◌, ap, arith, inl, inr}
+use Rattle.std.proofs.Common.{ap, arith, inl, inr}
 use Rattle.plain_table.specs.Places.{space_of}
 use Rattle.plain_table.specs.Table.{limit_in}
 use Rattle.entry_base.specs.Openings.{sizes_in}
@@ -6,7 +6,6 @@ use Rattle.entry_base.specs.Passed.{field_of}
 use Rattle.entry_base.specs.Sessions.{view}
 use Rattle.call_base.proofs.CallsInOrder.{called_none}
 use Rattle.mark_steps.specs.declared.answers.Mark.TheVariants as mark
-use Rattle.mark_steps.specs.Marks.{IsMarkCause}
 use Rattle.mark_steps.proofs.MarkParts.{mark_part, out_first, out_none}
 use Rattle.mark_steps.proofs.SeenWords.{lawful_after, lawful_of}
 use Rattle.mark_steps.proofs.marks.mark.Goals as goal

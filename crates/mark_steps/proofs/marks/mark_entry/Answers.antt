@@ -1,10 +1,6 @@
-use Rattle.std.proofs.Common.{◌≡◌, ◌%◌, ◌/◌, ◌^◌, ◌≢◌, ℕ, IsTrue, arith, true, false, ◌∙◌, sym, ap}
-use Rattle.plain_table.specs.Places.{space_of}
-use Rattle.plain_table.specs.Table.{limit_in}
-use Rattle.entry_base.specs.Openings.{sizes_in}
+use Rattle.std.proofs.Common.{arith, true, false}
 use Rattle.entry_base.specs.Passed.{field_of}
 use Rattle.entry_base.specs.Sessions.{view}
-use Rattle.word_laws.specs.ReadLaws.{has_mark, tag_bits}
 use Rattle.mark_steps.proofs.MarkTurns.{below_as, clear_word, exchange_called, exchange_cause, exchanged_as, load_called, load_cause, marked_word, no_mark_word, none_called}
 use Rattle.mark_steps.proofs.marks.mark_entry.Goals as goal
 

@@ -1,7 +1,3 @@
-use Rattle.plain_table.specs.declared.events.Space.TheVariants.{Trusted}
-use Rattle.plain_table.specs.Index.{index_of}
-use Rattle.plain_table.specs.Table.{limit_in}
-use Rattle.entry_base.specs.Openings.{sizes_in}
 use Rattle.entry_base.specs.Sessions.{view}
 use Rattle.mark_steps.proofs.SeenWords.{lawful_after, lawful_of, openable_of}
 use Rattle.mark_steps.proofs.SharedMarks.{shared_below, shared_called, shared_ends, shared_marked}
