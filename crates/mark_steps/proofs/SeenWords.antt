@@ -1,5 +1,5 @@
 -- What a session saw by a load of a field, and what stays seen.
-use Rattle.std.proofs.Common.{◌≡◌, ◌≢◌, ℕ, zero, suc, Bool, List, [], ◌∷◌, ◌++◌, Option, Some, None, IsTrue, refl, sym, ap, subst, ◌∙◌, inl, inr, arith}
+use Rattle.std.proofs.Common.{◌≢◌, ℕ, zero, suc, Bool, List, [], ◌∷◌, ◌++◌, IsTrue, refl, sym, subst, ◌∙◌, inl, inr}
 use Rattle.plain_table.specs.declared.events.Event.{Event}
 use Rattle.plain_table.specs.declared.events.Field.{Field}
 use Rattle.plain_table.specs.Index.{index_of}
@@ -8,7 +8,6 @@ use Rattle.plain_table.specs.Cycle.{HasStood}
 use Rattle.plain_table.specs.History.{after}
 use Rattle.plain_table.specs.Scans.{IsReadConcurrently}
 use Rattle.plain_table.specs.Table.{Table, limit_in}
-use Rattle.plain_table.specs.Words.{object_word}
 use Rattle.plain_table.proofs.CycleParts.{CycleSound-is}
 use Rattle.plain_table.proofs.Options.{IsSomeAnd-by, IsSomeAnd-some, IsSome-value}
 use Rattle.entry_base.specs.declared.view.Fact.{Fact}
@@ -21,10 +20,10 @@ use Rattle.entry_base.specs.Histories.{IsPhaseHistory}
 use Rattle.entry_base.specs.Lists.{Has}
 use Rattle.entry_base.specs.Openings.{IsBase, IsOpenable, sizes_in}
 use Rattle.entry_base.proofs.Sums.{each_has}
-use Rattle.mark_rule.specs.Marking.{HoldsAt, ReferenceLoaded, WordLoaded, is_out, out_facts, reference_facts, word_facts}
+use Rattle.mark_rule.specs.Marking.{WordLoaded, is_out, out_facts, word_facts}
 use Rattle.call_base.specs.Called.{Called}
 use Rattle.call_base.proofs.HistoriesStay.{stood_later}
-use Rattle.mark_steps.specs.Words.{RefersTo, Saw}
+use Rattle.mark_steps.specs.Words.{Saw}
 
 pub lawful_of : (key : Opening) (v : View) → IsCaller key v → IsPhaseHistory v.opening v.seen
 lawful_of key v caller = subst (λ o. IsPhaseHistory o v.seen) (sym caller.opened) caller.lawful

@@ -1,5 +1,5 @@
 -- The mark of a trusted cell whose word was seen: a cell stands there, so there is a mark.
-use Rattle.std.proofs.Common.{◌≡◌, ℕ, ◌<◌, [], ◌∷◌, IsSome, sym, subst, inl, inr, zero, suc, ◌==◌, false, if◌then◌else◌, ◌++◌, refl, ◌≢◌, Bool}
+use Rattle.std.proofs.Common.{arith, ◌≡◌, ℕ, ◌<◌, [], ◌∷◌, IsSome, sym, subst, inl, inr, zero, suc, ◌==◌, false, if◌then◌else◌, ◌++◌, refl, ◌≢◌, Bool}
 use Rattle.std.proofs.lemmas.Bool.{cases_lt}
 use Rattle.std.proofs.lemmas.Bool.Decides.{nat_tests}
 use Rattle.std.proofs.lemmas.Grind.{not_there}
