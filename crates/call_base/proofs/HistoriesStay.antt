@@ -34,6 +34,14 @@ pub legal_front : (s : Table) (es fs : List Event) → IsLegalHistory s (es ++ f
 legal_front s [] fs legal = tt
 legal_front s (e ∷ es) fs legal = (legal.0, legal_front (next s e) es fs legal.1)
 
+events_front : (es fs : List Event) → Each IsPhaseEvent (es ++ fs) → Each IsPhaseEvent es
+events_front [] fs events = tt
+events_front (e ∷ es) fs events = (events.0, events_front es fs events.1)
+
+-- the beginning of a history of the phase is one
+pub lawful_front : (key : Opening) (es fs : List Event) → IsPhaseHistory key (es ++ fs) → IsPhaseHistory key es
+lawful_front key es fs lawful = record { legal = λ b base. legal_front b es fs (lawful.legal b base); events = events_front es fs lawful.events }
+
 module _ (P : Table → Type 0) (stays : (s : Table) (e : Event) → IsSteady s e (next s e) → P s → P (next s e)) where
   stays_after : (s : Table) (es : List Event) → IsSound s → IsLegalHistory s es → Each IsPhaseEvent es → P s → P (after s es)
   stays_after s [] sound legal events holds = holds

@@ -121,6 +121,7 @@ module _ (key : Opening) (words : List ℕ) (views : List View) (id : ℕ) (v : 
           hands = refl;
           extends = done.1 caller.opened;
           before = k.log;
+          since = (let mine = k.numbers.stands id v at in (mine.rest, mine.seen));
           last = refl;
           was = λ b base.
               let g = given key words views id v k at b (subst (λ (o : Opening). IsBase o b) caller.opened base) in

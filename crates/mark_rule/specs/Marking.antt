@@ -19,7 +19,7 @@ use Rattle.entry_base.specs.declared.view.Opening.{Opening}
 use Rattle.entry_base.specs.declared.view.View.{View}
 use Rattle.entry_base.specs.Callers.{SameCaller, SameOwn, Looks, Extends, event_of}
 use Rattle.entry_base.specs.Learned.{Loaded}
-use Rattle.entry_base.specs.Lists.{Has, count_in, without_one}
+use Rattle.entry_base.specs.Lists.{Has, StartsWith, count_in, without_one}
 use Rattle.entry_base.specs.Openings.{IsBase, phase_of, sizes_in}
 use Rattle.entry_base.specs.Owns.{IsHeld}
 
@@ -94,6 +94,7 @@ pub record Marked (v : View) (p : Space) (i : ℕ) (had : Bool) (w : View) : Typ
   pub hands : w.hands ≡ v.hands
   pub extends : Extends v (event_of v (act.Mark p i) reply.Ok) w
   pub before : List Event
+  pub since : StartsWith before v.seen
   pub last : w.seen ≡ before ++ event_of v (act.Mark p i) reply.Ok ∷ []
   pub was : HasMarkAfter v.opening before p i had
   pub knows : Has w.facts (fact.Marked p i) × Has w.facts (fact.Visited p i)
