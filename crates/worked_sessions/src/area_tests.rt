@@ -122,8 +122,8 @@ fn evacuate<L: Ledger, M: Ledger>(
     assert_eq!(rt; word_at(rt, &image, 68), CELL);
     let (shared, mut first, roots) = open_with_roots(alloc, image)?;
     assert!(rt; roots.as_slice() == [0].as_slice());
-    assert_eq!(rt; first.area(), Some(4));
     let mut marker = first.split(&shared, 8, roots.as_slice());
+    assert_eq!(rt; marker.area(), Some(4));
     let mut steps = Steps::<L>::start(blank);
     scan_moved(rt, &shared, &mut marker, &mut steps);
     let after = close_both(shared, first, marker);
