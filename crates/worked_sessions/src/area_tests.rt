@@ -105,6 +105,19 @@ fn scan_moved<L: Ledger>(rt: &impl Abort, shared: &Shared, s: &mut Session, step
     scan_step(shared, s, 0);
 }
 
+/// Scans object 0 of the hands so, in a cycle whose area begins at 4.
+fn scan_in_area<L: Ledger>(rt: &impl Abort, shared: &Shared, s: &mut Session, steps: &mut Steps<L>)
+    requires caller { IsOf shared.now s.old }
+    requires hands { InHands (view s.old) 0 }
+    requires shape { (view s.old).opening.shape ≡ SHAPE }
+    ensures caller { IsOf shared.now s.new }
+    ensures same { SameCaller (view s.old) (view s.new) }
+    ensures ticked { steps.new ≡ steps.old + 1 }
+{
+    assert_eq!(rt; s.area(), Some(4));
+    scan_moved(rt, shared, s, steps);
+}
+
 fn evacuate<L: Ledger, M: Ledger>(
     rt: &impl Abort,
     alloc: Global,
@@ -122,10 +135,9 @@ fn evacuate<L: Ledger, M: Ledger>(
     assert_eq!(rt; word_at(rt, &image, 68), CELL);
     let (shared, mut first, roots) = open_with_roots(alloc, image)?;
     assert!(rt; roots.as_slice() == [0].as_slice());
-    assert_eq!(rt; first.area(), Some(4));
     let mut marker = first.split(&shared, 8, roots.as_slice());
     let mut steps = Steps::<L>::start(blank);
-    scan_moved(rt, &shared, &mut marker, &mut steps);
+    scan_in_area(rt, &shared, &mut marker, &mut steps);
     let after = close_both(shared, first, marker);
     assert_eq!(rt; word_at(rt, &after, 0), 0x5_0000_0002);
     assert_eq!(rt; word_at(rt, &after, 32), 3);

@@ -5,8 +5,8 @@ use Rattle.worked_steps.proofs.PassedParts.{IsPassed-parts, PassedField-stays, P
 use Rattle.worked_sessions.proofs.area_tests.scan_moved.Goals as goal
 
 pub scan_step-requires-clause-passed : goal.scan_step-requires-clause-passed
-scan_step-requires-clause-passed c =
-    let t = c.take_below.ensures in
+scan_step-requires-clause-passed g c =
+    let t = c.take_below-index.ensures in
     let a = c.pass_moved.ensures in
     let b = c.pass_field.ensures in
     let d = c.pass_field-2.ensures in

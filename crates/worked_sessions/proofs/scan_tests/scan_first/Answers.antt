@@ -5,7 +5,7 @@ use Rattle.worked_steps.proofs.PassedParts.{IsPassed-parts, PassedField-stays, P
 use Rattle.worked_sessions.proofs.scan_tests.scan_first.Goals as goal
 
 pub scan_step-requires-clause-passed : goal.scan_step-requires-clause-passed
-scan_step-requires-clause-passed c =
+scan_step-requires-clause-passed g c =
     let a = c.pass_external.ensures in
     let b = c.pass_field.ensures in
     let d = c.pass_trusted.ensures in
