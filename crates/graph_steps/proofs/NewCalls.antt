@@ -1,5 +1,5 @@
 -- A new object: tries, until one wins or the heap is full.
-use Rattle.std.proofs.Common.{◌≡◌, ◌≢◌, ℕ, ◌+◌, ◌*◌, ◌<◌, ◌≤◌, nat_lt, Bool, true, false, if◌then◌else◌, [], ◌∷◌, Some, length, slice_set, refl, sym, ap, ap₂, subst, ◌∙◌, inl, inr, arith}
+use Rattle.std.proofs.Common.{◌≡◌, ◌≢◌, ℕ, ◌+◌, ◌*◌, ◌<◌, ◌≤◌, ◌⊎◌, nat_lt, Bool, true, false, if◌then◌else◌, [], ◌∷◌, Some, length, slice_set, refl, sym, ap, ap₂, subst, ◌∙◌, inl, inr, arith}
 use Rattle.std.proofs.lemmas.Bool.Decides.{nat_tests}
 use Rattle.plain_table.specs.declared.scripts.Op.TheVariants as op
 use Rattle.plain_table.specs.declared.events.Act.TheVariants as act
@@ -7,25 +7,26 @@ use Rattle.plain_table.specs.declared.reports.Reply.{Reply}
 use Rattle.plain_table.specs.declared.reports.Reply.TheVariants as reply
 use Rattle.plain_table.specs.Sound.{IsSound}
 use Rattle.plain_table.specs.Table.{Table}
+use Rattle.entry_base.specs.declared.view.Fact.TheVariants as fact
 use Rattle.entry_base.specs.declared.view.View.{View}
 use Rattle.entry_base.specs.Callers.{Extends, event_of}
+use Rattle.entry_base.specs.Lists.{Has}
 use Rattle.entry_base.specs.Numbers.{HasNumber}
 use Rattle.entry_base.specs.Openings.{sizes_in}
 use Rattle.entry_base.proofs.OneByOne.{own_trans}
 use Rattle.object_rule.specs.Objects.{CountForNew, NewObject}
 use Rattle.call_base.specs.Called.{Called, HeldAtLast, LeavesOwn, Made}
-use Rattle.call_base.proofs.CallsInOrder.{called_looks, called_none, called_trans}
+use Rattle.call_base.proofs.CallsInOrder.{called_looks, called_trans}
 use Rattle.call_base.proofs.HeldVariables.{made_sets_by}
 use Rattle.call_base.proofs.OneEvent.{called_after, ends_after, held_at_last, made_after}
-use Rattle.graph_steps.specs.Graph.{IsNewAtEvent, IsNewReply, TriedTo}
+use Rattle.graph_steps.specs.Graph.{IsNewAtEvent, IsNewReply}
 
-pub tried_none : (v : View) → TriedTo v 0 v
-tried_none v = record {
-  called = called_none v;
-  leaves = record { own = record { vars = refl; pending = refl; owed = refl; fresh = refl }; hands = refl };
-  known = inl refl;
-  low = omega arith;
-}
+-- tries to make an object made no event so far, and at least so many are made
+pub record TriedTo (v : View) (least : ℕ) (w : View) : Type 0 where
+  pub called : Called v [] w
+  pub leaves : LeavesOwn v w
+  pub known : (least ≡ 0) ⊎ Has w.facts (fact.Count least)
+  pub low : least ≤ (sizes_in v.opening).objects
 
 -- the reply of the row of a new object, in a sound table
 new_reply : (t : Table) (said : Reply) → IsSound t → said ≡ (if nat_lt t.count t.sizes.objects then reply.Obj t.count else reply.HeapFull) → IsNewReply t said
@@ -42,12 +43,6 @@ new_at_event v w var said opening extends = subst (λ o. HeldAtLast o w.seen (λ
 
 -- a load after tries
 module _ (u v w : View) (var least count : ℕ) (own : HasNumber v v.number) (tried : TriedTo u least v) (loaded : CountForNew v var count w) where
-  pub least_low : least ≤ count
-  least_low = elim tried.known [
-    | inl zero ↦ omega (arith, zero)
-    | inr has ↦ loaded.loaded.rises least has
-  ]
-
   leaves : LeavesOwn u w
   leaves = record { own = own_trans u v w tried.leaves.own loaded.loaded.own; hands = loaded.loaded.hands ∙ tried.leaves.hands }
 
@@ -56,9 +51,6 @@ module _ (u v w : View) (var least count : ℕ) (own : HasNumber v v.number) (tr
     pub made_full : Made u (op.New var) reply.HeapFull w
     made_full = made_after u v w (op.New var) (act.New var) reply.HeapFull own tried.called loaded.loaded.same leaves.own.vars leaves.own.pending (loaded.full is)
         (λ cycle held ticket suits. refl) (λ held. refl) (λ ticket. refl)
-
-    pub full_leaves : LeavesOwn u w
-    full_leaves = leaves
 
     pub full_at : IsNewAtEvent w reply.HeapFull
     full_at = new_at_event v w var reply.HeapFull loaded.loaded.same.opening (loaded.full is)

@@ -1,5 +1,5 @@
 -- What calls on objects leave: what a variable holds after a reply, what a link names, and an object that was shaded.
-use Rattle.std.specs.Prelude.{◌≡◌, ◌⊎◌, ◌<◌, ◌≤◌, ℕ, ◌+◌, ◌*◌, Bool, if◌then◌else◌, [], ◌∷◌, Option, Some, None, slice_set}
+use Rattle.std.specs.Prelude.{◌≡◌, ◌⊎◌, ◌<◌, ℕ, ◌+◌, ◌*◌, Bool, if◌then◌else◌, ◌∷◌, Option, Some, None, slice_set}
 use Rattle.std.specs.Option.{option_map_or}
 use Rattle.plain_table.specs.declared.events.Spot.{Spot}
 use Rattle.plain_table.specs.declared.reports.Reply.{Reply}
@@ -11,9 +11,8 @@ use Rattle.entry_base.specs.declared.view.Fact.TheVariants as fact
 use Rattle.entry_base.specs.declared.view.View.{View}
 use Rattle.entry_base.specs.Callers.{SameOwn}
 use Rattle.entry_base.specs.Lists.{Has}
-use Rattle.entry_base.specs.Openings.{sizes_in}
 use Rattle.entry_base.specs.Sessions.{held_in}
-use Rattle.call_base.specs.Called.{Called, HeldAtLast, LeavesOwn}
+use Rattle.call_base.specs.Called.{HeldAtLast, LeavesOwn}
 
 -- a variable holds this object, or nothing; the other variables, and all else that the caller owns, are as before
 pub record NowHolds (v : View) (var : ℕ) (x : Option ℕ) (w : View) : Type 0 where
@@ -53,10 +52,3 @@ pub record IsShadedNow (v : View) (o : ℕ) (white : Bool) (w : View) : Type 0 w
   pub own : SameOwn v w
   pub hands : w.hands ≡ (if white then o ∷ v.hands else v.hands)
   pub knows : Has w.facts (fact.Shaded o)
-
--- tries to make an object made no event so far, and at least so many are made
-pub record TriedTo (v : View) (least : ℕ) (w : View) : Type 0 where
-  pub called : Called v [] w
-  pub leaves : LeavesOwn v w
-  pub known : (least ≡ 0) ⊎ Has w.facts (fact.Count least)
-  pub low : least ≤ (sizes_in v.opening).objects

@@ -1,6 +1,6 @@
 use Rattle.std.proofs.Common.{◌-◌}
 use Rattle.entry_base.specs.Sessions.{view, IsOf}
-use Rattle.graph_steps.specs.Graph.{TriedTo}
+use Rattle.graph_steps.proofs.NewCalls.{TriedTo}
 use Rattle.graph_steps.proofs.objects.new_object.Given as goal
 
 abbrev pub invariant-loop-var : goal.invariant-loop-var
