@@ -1,5 +1,5 @@
 -- What calls on objects leave: what a variable holds after a reply, what a link names, and an object that was shaded.
-use Rattle.std.specs.Prelude.{◌≡◌, ◌⊎◌, ◌<◌, ℕ, ◌+◌, ◌*◌, Bool, if◌then◌else◌, ◌∷◌, Option, Some, None, slice_set}
+use Rattle.std.specs.Prelude.{◌≡◌, ◌≤◌, ◌⊎◌, ◌<◌, ℕ, ◌+◌, ◌*◌, Bool, if◌then◌else◌, ◌∷◌, Option, Some, None, slice_set}
 use Rattle.std.specs.Option.{option_map_or}
 use Rattle.plain_table.specs.declared.events.Spot.{Spot}
 use Rattle.plain_table.specs.declared.reports.Reply.{Reply}
@@ -10,7 +10,7 @@ use Rattle.plain_table.specs.Words.{object_word}
 use Rattle.entry_base.specs.declared.view.Fact.TheVariants as fact
 use Rattle.entry_base.specs.declared.view.View.{View}
 use Rattle.entry_base.specs.Callers.{SameOwn}
-use Rattle.entry_base.specs.Lists.{Has}
+use Rattle.entry_base.specs.Lists.{Has, count_in}
 use Rattle.entry_base.specs.Sessions.{held_in}
 use Rattle.call_base.specs.Called.{HeldAtLast, LeavesOwn}
 
@@ -47,8 +47,9 @@ abbrev pub IsUnheld : View → Option ℕ → Type 0
 IsUnheld v None = ⊥
 IsUnheld v (Some var) = held_in v var ≡ None
 
--- an object is known as shaded, and came into the hands exactly where it was white
+-- an object is known as shaded, and came into the hands exactly where it was white; each object stands there at most once
 pub record IsShadedNow (v : View) (o : ℕ) (white : Bool) (w : View) : Type 0 where
   pub own : SameOwn v w
   pub hands : w.hands ≡ (if white then o ∷ v.hands else v.hands)
+  pub once : (q : ℕ) → count_in q w.hands ≤ 1
   pub knows : Has w.facts (fact.Shaded o)

@@ -1,13 +1,17 @@
 -- What the header of an object tells in a cycle, and the hands after a change of one header.
-use Rattle.std.proofs.Common.{◌≡◌, ◌≢◌, ℕ, ◌+◌, ◌<◌, ◌==◌, if◌then◌else◌, Bool, List, ◌∷◌, length, slice_index, slice_set, Option, Some, IsTrue, IsSome, IfSome, sym, ap, subst, ◌∙◌, inl, inr, arith}
+use Rattle.std.proofs.Common.{◌≡◌, ◌≢◌, ℕ, ◌+◌, ◌<◌, ◌≤◌, ◌==◌, nat_lt, if◌then◌else◌, Bool, true, false, List, set, ◌∷◌, length, slice_index, slice_set, Option, Some, IsTrue, IsSome, IfSome, sym, ap, subst, ◌∙◌, inl, inr, arith}
 use Rattle.std.proofs.lemmas.Bool.Decides.{eqb_tells, nat_tests}
+use mathlib.Core.Option.{some}
+use lib.ListN.{get_elem?}
 use Rattle.plain_table.specs.Cycle.{Cycle}
 use Rattle.plain_table.specs.Shows.{Shows, is_black, IsHeader, IsHeaderIn}
 use Rattle.plain_table.specs.Table.{Table, Sizes}
 use Rattle.plain_table.specs.Words.{header_place, header_word}
 use Rattle.plain_table.proofs.Options.{IsSome-value}
-use Rattle.entry_base.specs.Hands.{grey}
+use Rattle.entry_base.specs.Hands.{grey, HandsKept}
 use Rattle.entry_base.specs.Lists.{count_in}
+use Rattle.entry_base.specs.declared.view.View.{View}
+use Rattle.entry_base.proofs.Sums.{among, total_set}
 use Rattle.entry_base.proofs.Greys.{grey_here, grey_there, header_here}
 
 -- in a cycle a header is black or not, and a black one is shaded
@@ -48,3 +52,20 @@ hands_changed z shown before after o n made room here there m = elim (eqb_tells 
       let b = grey_here z (slice_set shown (header_place o) n) o made ∙ ap grey_of (header_here shown o n room) in
       omega (arith, here))
 ]
+
+-- each object stands at most once in the hands of a view
+grey-few : (z : Sizes) (shown : List ℕ) (o : ℕ) → grey z shown o ≤ 1
+grey-few z shown o = go (nat_lt o z.objects) (slice_index shown (header_place o) == 1)
+  where
+    go : (b c : Bool) → (if b then (if c then 1 else 0) else 0) ≤ 1
+    go true true = omega arith
+    go true false = omega arith
+    go false c = omega arith
+
+pub hands_once : (z : Sizes) (shown : List ℕ) (views : List View) (id : ℕ) (v w : View) → get_elem? views id ≡ some v → HandsKept z shown (set views id w) → (o : ℕ) → count_in o w.hands ≤ 1
+hands_once z shown views id v w at kept o =
+    let all = total_set (λ (x : View). count_in o x.hands) views id v w at in
+    let had = among (λ (x : View). count_in o x.hands) views id v at in
+    let whole = kept o in
+    let few = grey-few z shown o in
+    omega arith

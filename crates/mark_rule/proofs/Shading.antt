@@ -32,7 +32,7 @@ use Rattle.entry_base.proofs.OneByOne.{caller_stays, held_within_limit}
 use Rattle.entry_base.proofs.Steps.{Given, Keeps, Leaves, given, keeps_by, sees}
 use Rattle.entry_base.proofs.Sums.{count_self, each_has}
 use Rattle.mark_rule.specs.Marking.{IsSeen, Shaded}
-use Rattle.mark_rule.proofs.Headers.{HeaderTells, IfSome-by, count_past, grey_of, hands_changed, header_tells}
+use Rattle.mark_rule.proofs.Headers.{HeaderTells, IfSome-by, hands_once, count_past, grey_of, hands_changed, header_tells}
 
 -- the hands after a shading, by the word that was found
 abbrev taken_up : ℕ → ℕ → List ℕ → List ℕ
@@ -139,6 +139,7 @@ module _ (key : Opening) (words : List ℕ) (views : List View) (id : ℕ) (v : 
           own = record { vars = refl; pending = refl; owed = refl; fresh = refl };
           looks = done.1 opened;
           hands = refl;
+          once = hands_once z done.0.shown views id v shader at done.0.hands;
           knows = inl refl;
         },
       )

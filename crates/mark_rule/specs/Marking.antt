@@ -126,12 +126,13 @@ pub record IsKnownTraced (v : View) (o : ℕ) : Type 0 where
 abbrev pub IsSeen : View → ℕ → Type 0
 IsSeen v o = IsHeldInCycle v o ⊎ IsKnownTraced v o
 
--- an object was shaded: it is known as shaded, and it is in the hands where it was white
+-- an object was shaded: it is known as shaded, and it is in the hands where it was white; each object stands there at most once
 pub record Shaded (v : View) (o found : ℕ) (w : View) : Type 0 where
   pub same : SameCaller v w
   pub own : SameOwn v w
   pub looks : Looks v w
   pub hands : w.hands ≡ (if found % 2 == 0 then o ∷ v.hands else v.hands)
+  pub once : (q : ℕ) → count_in q w.hands ≤ 1
   pub knows : Has w.facts (fact.Shaded o)
 
 -- an object was scanned, and has left the hands
