@@ -129,7 +129,11 @@ fn share_marked(rt: &impl Abort, shared: &Shared, s: &mut Session)
     assert_eq!(rt; taken, 0x1_0000);
 }
 
-fn mark_and_share<L: Ledger>(rt: &impl Abort, alloc: Global, blank: Blank) -> Result<(), OutOfMemory>
+fn mark_and_share<L: Ledger>(
+    rt: &impl Abort,
+    alloc: Global,
+    blank: Blank,
+) -> Result<(), OutOfMemory>
     requires name { blank.name ≡ L.name }
     requires parts { blank.parts ≡ L.parts }
     requires one { blank.parts ≡ 1 }

@@ -14,7 +14,8 @@ use entry_base::{Session, Shared};
 use entry_word::Image;
 use freelist_rule::Steps;
 use object_rule::{
-    bind_external, forge_step, get_global, get_reference, link_global, link_reference, name_external,
+    bind_external, forge_step, get_global, get_reference, link_global, link_reference,
+    name_external,
 };
 use plain_table::OutOfMemory;
 use std::alloc::Global;
@@ -91,8 +92,22 @@ fn bind_twice<L: Ledger>(rt: &impl Abort, alloc: Global, blank: Blank) -> Result
     bind_both(rt, &shared, &mut one, &mut steps);
     let after = close_both(shared, first, one);
     assert_change(rt, &before, &after, 37, 0, 0x1_0000);
-    assert_change(rt, &before, &after, 65, (1 << 56) + 2, 0x400f_0000_0000_00c0);
-    assert_change(rt, &before, &after, 66, (1 << 56) + 3, 0x400f_0000_0000_00d0);
+    assert_change(
+        rt,
+        &before,
+        &after,
+        65,
+        (1 << 56) + 2,
+        0x400f_0000_0000_00c0,
+    );
+    assert_change(
+        rt,
+        &before,
+        &after,
+        66,
+        (1 << 56) + 3,
+        0x400f_0000_0000_00d0,
+    );
     Ok(())
 }
 

@@ -186,13 +186,19 @@ fn scan_in_two_phases<L: Ledger>(
     let mut marker = first.split(&shared, 8, roots.as_slice());
     scan_first(rt, &shared, &mut marker);
     let image = close_both(shared, first, marker);
-    assert_eq!(rt; words_scanned(rt, &image), [3, 1, EXTERNAL + MARK, TRUSTED + MARK]);
+    assert_eq!(rt;
+        words_scanned(rt, &image),
+        [3, 1, EXTERNAL + MARK, TRUSTED + MARK]
+    );
     let (shared, mut first, roots) = open_with_roots(alloc, image)?;
     assert!(rt; roots.as_slice() == [1].as_slice());
     let mut marker = first.split(&shared, 8, roots.as_slice());
     scan_second(rt, &shared, &mut marker);
     let image = close_both(shared, first, marker);
-    assert_eq!(rt; words_scanned(rt, &image), [3, 3, EXTERNAL + MARK, TRUSTED + MARK]);
+    assert_eq!(rt;
+        words_scanned(rt, &image),
+        [3, 3, EXTERNAL + MARK, TRUSTED + MARK]
+    );
     Ok(())
 }
 

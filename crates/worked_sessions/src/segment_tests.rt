@@ -18,7 +18,12 @@ use std::process::Abort;
 use std::sync::ledger::{Blank, Ledger};
 
 /// Takes the three indexes of the first external segment.
-pub(crate) fn take_three<L: Ledger>(rt: &impl Abort, shared: &Shared, s: &mut Session, steps: &mut Steps<L>)
+pub(crate) fn take_three<L: Ledger>(
+    rt: &impl Abort,
+    shared: &Shared,
+    s: &mut Session,
+    steps: &mut Steps<L>,
+)
     requires caller { IsOf shared.now s.old }
     ensures caller { IsOf shared.now s.new }
     ensures same { SameCaller (view s.old) (view s.new) }

@@ -109,7 +109,14 @@ fn give_ticket<L: Ledger>(rt: &impl Abort, alloc: Global, blank: Blank) -> Resul
     assert_eq!(rt; hidden, 0x480f_0000_0000_00c0);
     assert_eq!(rt; after.pending.as_slice()[0], Some(FIRST));
     assert_change(rt, &before, &after, 39, 0, 0x1_0000);
-    assert_change(rt, &before, &after, 73, (1 << 56) + 2, 0x480f_0000_0000_00c0);
+    assert_change(
+        rt,
+        &before,
+        &after,
+        73,
+        (1 << 56) + 2,
+        0x480f_0000_0000_00c0,
+    );
     Ok(())
 }
 
@@ -139,8 +146,22 @@ fn publish_and_miss<L: Ledger>(
     assert_eq!(rt; taken, 0x1_0000);
     assert_eq!(rt; none, None);
     assert_eq!(rt; bound, 0x1_0000);
-    assert_change(rt, &before, &after, 73, (1 << 56) + 2, 0x400f_0000_0000_00c0);
-    assert_change(rt, &before, &after, 74, (1 << 56) + 3, 0x480f_0000_0000_00d0);
+    assert_change(
+        rt,
+        &before,
+        &after,
+        73,
+        (1 << 56) + 2,
+        0x400f_0000_0000_00c0,
+    );
+    assert_change(
+        rt,
+        &before,
+        &after,
+        74,
+        (1 << 56) + 3,
+        0x480f_0000_0000_00d0,
+    );
     Ok(())
 }
 
