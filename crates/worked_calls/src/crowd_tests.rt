@@ -106,7 +106,7 @@ fn link_and_share(rt: &impl Abort, shared: &Shared, s: &mut Session)
 }
 
 /// The work of a thread, whose cells have values from its number on.
-fn work(rt: &impl Abort, shared: &Shared, mut s: Session, number: u64) -> (Session, Work)
+fn work_at_once(rt: &impl Abort, shared: &Shared, mut s: Session, number: u64) -> (Session, Work)
     requires caller { IsOf shared.now s }
     requires mutator { (view s).number < 8 }
     requires small { number < 8 }
@@ -136,8 +136,8 @@ fn both_work<R: Threads + Sync + Abort>(
 {
     join(
         rt,
-        || work(rt, shared, one, number),
-        || work(rt, shared, two, number + 1),
+        || work_at_once(rt, shared, one, number),
+        || work_at_once(rt, shared, two, number + 1),
     )
 }
 
