@@ -96,6 +96,7 @@ fn a_second_object_finds_the_heap_full(rt: HostRuntime) -> Result<(), OutOfMemor
     fill_heap(&rt, &shared, &mut s);
     let image = close_both(shared, first, s);
     assert_eq!(rt; word_at(&rt, &image, 3), 1);
-    assert_eq!(rt; image.vars.as_slice()[..2], [1, 0]);
+    assert_eq!(rt; image.vars.as_slice()[0], 1);
+    assert_eq!(rt; image.vars.as_slice()[1], 0);
     Ok(())
 }

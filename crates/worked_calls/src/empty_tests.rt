@@ -1,0 +1,94 @@
+// Calls by a variable that holds nothing: each answers so, and changes nothing.
+ghost use Rattle.std.specs.Prelude.{◌<◌};
+ghost use Rattle.entry_base.specs.Callers.{SameCaller};
+ghost use Rattle.entry_base.specs.Sessions.{view, IsOf};
+
+use crate::asked::{only, tag};
+use crate::thread_tests::image_with_a_common_object;
+use access_steps::{forge, init, load, name, store, swap};
+use entry_base::{Session, Shared};
+use graph_steps::{fetch, link, link_global};
+use plain_table::{OutOfMemory, Reply};
+use std::process::Abort;
+use trusted_steps::{publish, share, tload, tnew};
+use worked_tables::{close_both, open};
+
+/// Calls by external fields of what variable 1 holds, which is nothing.
+fn access_nothing(rt: &impl Abort, shared: &Shared, s: &mut Session)
+    requires caller { IsOf shared.now s.old }
+    requires mutator { (view s.old).number < 8 }
+    ensures caller { IsOf shared.now s.new }
+    ensures same { SameCaller (view s.old) (view s.new) }
+{
+    let named = name(shared, s, 1, 0);
+    assert_eq!(rt; named, Reply::Empty);
+    let forged = forge(shared, s, 1, 1, 0xffff_ffff);
+    assert_eq!(rt; forged, Reply::Empty);
+    let loaded = load(shared, s, 1, 0, only(rt, 0x0f));
+    assert_eq!(rt; loaded, Reply::Empty);
+    let stored = store(shared, s, 1, 1, only(rt, 0x0f), 0xc1);
+    assert_eq!(rt; stored, Reply::Empty);
+    let swapped = swap(shared, s, 1, 0, only(rt, 0x0f), 0xc1);
+    assert_eq!(rt; swapped, Reply::Empty);
+    let inited = init(shared, s, 1, 1, tag(rt, 0x0f), 0xc1);
+    assert_eq!(rt; inited, Reply::Empty);
+}
+
+/// Calls by references of what variable 1 holds, which is nothing, and links to it.
+fn link_nothing(rt: &impl Abort, shared: &Shared, s: &mut Session)
+    requires caller { IsOf shared.now s.old }
+    requires mutator { (view s.old).number < 8 }
+    ensures caller { IsOf shared.now s.new }
+    ensures same { SameCaller (view s.old) (view s.new) }
+{
+    let from = link(shared, s, 1, 0, Some(0));
+    assert_eq!(rt; from.reply, Reply::Empty);
+    assert_eq!(rt; from.shaded, None);
+    let to = link(shared, s, 0, 3, Some(1));
+    assert_eq!(rt; to.reply, Reply::Empty);
+    assert_eq!(rt; to.shaded, None);
+    let global = link_global(shared, s, 1, Some(1));
+    assert_eq!(rt; global, Reply::Empty);
+    let fetched = fetch(shared, s, 0, 1, 0);
+    assert_eq!(rt; fetched, Reply::Empty);
+}
+
+/// Calls by the trusted field of what variable 1 holds, which is nothing.
+fn share_nothing(rt: &impl Abort, shared: &Shared, s: &mut Session)
+    requires caller { IsOf shared.now s.old }
+    requires mutator { (view s.old).number < 8 }
+    ensures caller { IsOf shared.now s.new }
+    ensures same { SameCaller (view s.old) (view s.new) }
+{
+    let filled = tnew(shared, s, 1, tag(rt, 0x0f), 0xc1);
+    assert_eq!(rt; filled, Reply::Empty);
+    let published = publish(shared, s, 1);
+    assert_eq!(rt; published, Reply::Empty);
+    let loaded = tload(shared, s, 1, only(rt, 0x0f));
+    assert_eq!(rt; loaded, Reply::Empty);
+    let from = share(shared, s, 1, 0);
+    assert_eq!(rt; from, Reply::Empty);
+    let to = share(shared, s, 0, 1);
+    assert_eq!(rt; to, Reply::Empty);
+}
+
+#[test]
+fn calls_by_a_variable_that_holds_nothing_change_nothing(
+    rt: HostRuntime,
+) -> Result<(), OutOfMemory> {
+    let before = image_with_a_common_object(&rt, rt.alloc())?;
+    let opened = image_with_a_common_object(&rt, rt.alloc())?;
+    let (shared, mut first) = open(rt.alloc(), opened)?;
+    let mut s = first.split(&shared, 0, &[]);
+    assert_eq!(rt; s.held(0), Some(0));
+    assert_eq!(rt; s.held(1), None);
+    access_nothing(&rt, &shared, &mut s);
+    link_nothing(&rt, &shared, &mut s);
+    share_nothing(&rt, &shared, &mut s);
+    assert_eq!(rt; s.held(0), Some(0));
+    let after = close_both(shared, first, s);
+    assert_eq!(rt; after.words.as_slice(), before.words.as_slice());
+    assert_eq!(rt; after.vars.as_slice(), before.vars.as_slice());
+    assert_eq!(rt; after.pending.as_slice(), before.pending.as_slice());
+    Ok(())
+}
