@@ -1,7 +1,6 @@
 -- Lists of numbers: how often each stands in one, and that a list in which each stands at most once is no longer than a bound on
 -- its numbers.
-use Rattle.std.proofs.Common.{◌≡◌, ◌≢◌, ℕ, zero, suc, ◌+◌, ◌<◌, ◌≤◌, ◌==◌, if◌then◌else◌, Bool, true, false, List, [], ◌∷◌, ◌++◌, length, refl, sym, ap, subst, ◌∙◌, inl, inr, arith}
-use Rattle.std.proofs.lemmas.Bool.{cases_lt}
+use Rattle.std.proofs.Common.{◌≡◌, ◌≢◌, ℕ, zero, suc, ◌+◌, ◌<◌, ◌≤◌, List, [], ◌∷◌, ◌++◌, length, refl, sym, subst, inl, inr, arith}
 use Rattle.std.proofs.lemmas.Bool.Decides.{eqb_tells, nat_tests}
 use Rattle.entry_base.specs.Lists.{Each, count_in}
 
@@ -22,13 +21,13 @@ length_snoc [] x = refl
 length_snoc (y ∷ ys) x = let r = length_snoc ys x in omega arith
 
 -- how many of the numbers stand below a bound
-below : ℕ → List ℕ → ℕ
+abbrev below : ℕ → List ℕ → ℕ
 below zero xs = 0
 below (suc n) xs = count_in n xs + below n xs
 
 below_none : (n : ℕ) → below n [] ≡ 0
 below_none zero = refl
-below_none (suc n) = below_none n
+below_none (suc n) = let r = below_none n in omega arith
 
 below_past : (n x : ℕ) (xs : List ℕ) → n ≤ x → below n (x ∷ xs) ≡ below n xs
 below_past zero x xs past = refl

@@ -1,17 +1,17 @@
 -- Passing fields and references: parts of the scan, and the stack beside the hands.
-use Rattle.std.proofs.Common.{◌≡◌, ℕ, ◌+◌, ◌*◌, ◌<◌, ◌≤◌, List, [], ◌∷◌, ◌++◌, length, refl, sym, ap, subst, ◌∙◌, arith}
+use Rattle.std.proofs.Common.{◌≡◌, ℕ, ◌+◌, ◌*◌, ◌<◌, ◌≤◌, if◌then◌else◌, Bool, true, false, IsTrue, List, [], ◌∷◌, length, ap, subst, arith}
 use Rattle.plain_table.specs.declared.events.Field.{Field}
 use Rattle.plain_table.specs.declared.events.Field.TheVariants as field
-use Rattle.plain_table.specs.Scans.{Scanner, Move, Rest, Visit, marked_at}
+use Rattle.plain_table.specs.Scans.{Move, Rest, Visit, marked_at}
 use Rattle.plain_table.proofs.ObjectFields.{AreFieldsOf-three, fields_of}
 use Rattle.plain_table.specs.Scans.{Begins}
 use Rattle.entry_base.specs.declared.view.Opening.{Opening}
 use Rattle.entry_base.specs.declared.view.View.{View}
-use Rattle.entry_base.specs.Callers.{AreWithin, IsCaller}
+use Rattle.entry_base.specs.Callers.{IsCaller}
 use Rattle.entry_base.specs.Lists.{AreIn, count_in}
 use Rattle.entry_base.specs.Openings.{sizes_in}
 use Rattle.entry_base.specs.Passed.{field_of}
-use Rattle.entry_base.proofs.Sums.{count_append, each_in}
+use Rattle.entry_base.proofs.Sums.{each_in}
 use Rattle.call_base.specs.Called.{Called}
 use Rattle.call_base.specs.ScanParts.{ScanPart}
 use Rattle.call_base.proofs.ScanParts.{part_none, part_still, part_trans, part_turn}
@@ -40,3 +40,8 @@ has_room key w hands stack target object room caller is once within enough =
   where
     all : AreIn (object ∷ stack) w.hands
     all q = let a = within q in let b = ap (count_in q) is in let c = count_cons q target hands in omega (arith, a, b, c)
+
+-- the hands after the shading of a white object
+pub now_white : (target : ℕ) (white : Bool) (hands later : List ℕ) → later ≡ (if white then target ∷ hands else hands) → IsTrue white → later ≡ target ∷ hands
+now_white target true hands later is white = is
+now_white target false hands later is white = absurd (cc)

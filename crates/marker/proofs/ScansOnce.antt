@@ -1,6 +1,6 @@
 -- A legal history has at most one scan of each object: a scan is legal where the object has none, and no event of a phase takes one
 -- back.
-use Rattle.std.proofs.Common.{◌≡◌, ◌≢◌, ◌⊎◌, ℕ, ◌+◌, ◌<◌, ◌≤◌, ◌==◌, if◌then◌else◌, Bool, true, false, List, [], ◌∷◌, ◌++◌, Option, Some, None, IsTrue, IsSomeAnd, refl, sym, ap, subst, ◌∙◌, inl, inr, arith}
+use Rattle.std.proofs.Common.{◌≡◌, ◌≢◌, ◌⊎◌, ℕ, ◌+◌, ◌≤◌, ◌==◌, if◌then◌else◌, Bool, true, false, List, [], ◌∷◌, ◌++◌, Option, Some, None, IsTrue, IsSomeAnd, refl, sym, ap, subst, ◌∙◌, inl, inr, arith}
 use Rattle.std.proofs.lemmas.Bool.{cases_lt}
 use Rattle.std.proofs.lemmas.Bool.Decides.{eqb_tells, nat_tests}
 use Rattle.std.proofs.lemmas.Grind.{not_there}
@@ -26,7 +26,6 @@ use Rattle.entry_base.specs.Openings.{IsOpenable}
 use Rattle.entry_base.proofs.Sums.{count_append, each_last}
 use Rattle.call_base.specs.ScanParts.{ScanPart, scanned_by, scanned_in}
 use Rattle.call_base.proofs.HistoriesStay.{lawful_front, legal_rest, sound_after}
-use Rattle.marker.proofs.Counts.{count_cons}
 
 -- an object has its scan in the cycle
 abbrev HasScan : Table → ℕ → Type 0

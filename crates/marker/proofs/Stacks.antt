@@ -1,8 +1,7 @@
 -- The stack of a marker and its hands: what is so at the start, after the scan of an object, and at the end.
-use Rattle.std.proofs.Common.{◌≡◌, ℕ, ◌+◌, ◌<◌, ◌≤◌, List, [], ◌∷◌, ◌++◌, length, refl, sym, ap, subst, ◌∙◌, arith}
+use Rattle.std.proofs.Common.{◌≡◌, ℕ, ◌+◌, ◌<◌, ◌≤◌, List, [], ◌∷◌, ◌++◌, refl, ap, ◌∙◌, arith}
 use Rattle.plain_table.specs.Scans.{Rest}
 use Rattle.entry_base.specs.declared.view.View.{View}
-use Rattle.entry_base.specs.Callers.{AreWithin}
 use Rattle.entry_base.specs.Histories.{IsPhaseHistory}
 use Rattle.entry_base.specs.Lists.{AreIn, count_in}
 use Rattle.entry_base.specs.Openings.{IsOpenable, sizes_in}

@@ -1,5 +1,5 @@
 -- What a marker does from rest to rest: the objects that it scans, and those that its references bring into the hands.
-use Rattle.std.specs.Prelude.{◌≡◌, ℕ, ◌+◌, ◌<◌, ◌≤◌, List, [], ◌∷◌, length}
+use Rattle.std.specs.Prelude.{◌≡◌, ℕ, ◌+◌, ◌≤◌, List, [], ◌∷◌, length}
 use Rattle.plain_table.specs.Scans.{Rest}
 use Rattle.entry_base.specs.declared.view.View.{View}
 use Rattle.entry_base.specs.Callers.{AreWithin, SameOwn}
