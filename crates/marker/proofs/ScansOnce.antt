@@ -95,12 +95,12 @@ module _ (o : ℕ) where
       let rest = at_most_once (next s e) es (events-sound s e sound legal.0) legal.1 events.1 in
       elim (act_scans e.act) [
         | inl scan ↦ (let more = scans_more e es scan.0 scan.1 in elim (eqb_tells o scan.0) [
-            | inl same ↦
-                let none = none_again (next s e) es (events-sound s e sound legal.0) legal.1 events.1 (subst (HasScan (next s e)) (sym same.1) (made_by s e scan.0 (legal.0, tt) scan.1)) in
-                let one = one_same scan.0 (scanned_in es) same.1 in
-                omega (arith, more, none, one)
-            | inr apart ↦ let other = one_other scan.0 (scanned_in es) apart.1 in omega (arith, more, other, rest)
-          ])
+          | inl same ↦
+              let none = none_again (next s e) es (events-sound s e sound legal.0) legal.1 events.1 (subst (HasScan (next s e)) (sym same.1) (made_by s e scan.0 (legal.0, tt) scan.1)) in
+              let one = one_same scan.0 (scanned_in es) same.1 in
+              omega (arith, more, none, one)
+          | inr apart ↦ let other = one_other scan.0 (scanned_in es) apart.1 in omega (arith, more, other, rest)
+        ])
         | inr none ↦ let same = scans_same e es none in omega (arith, same, rest)
       ]
 
@@ -124,9 +124,9 @@ scans_once v w at to done openable lawful part o = elim (cases_lt 1 (count_in o 
       let c = part.called in
       let grown : IsPhaseHistory v.opening (v.seen ++ c.grown) = subst (IsPhaseHistory v.opening) c.seen lawful in
       let most = at_most_once o (after t.base v.seen) c.grown
-          (sound_after v.opening v.seen (lawful_front v.opening v.seen c.grown grown) t.base t.is_base)
-          (legal_rest t.base v.seen c.grown (grown.legal t.base t.is_base))
-          (each_last IsPhaseEvent v.seen c.grown grown.events) in
+      (sound_after v.opening v.seen (lawful_front v.opening v.seen c.grown grown) t.base t.is_base)
+      (legal_rest t.base v.seen c.grown (grown.legal t.base t.is_base))
+      (each_last IsPhaseEvent v.seen c.grown grown.events) in
       let own = own_few o v.number c.grown in
       let mine : count_in o (scanned_in (events_by v.number c.grown)) ≡ count_in o done = ap (λ es. count_in o (scanned_in es)) c.mine ∙ ap (count_in o) part.scanned in
       omega (arith, many, most, own, mine)))

@@ -1,7 +1,7 @@
 // A marker: a stack of objects that are still to be scanned.
 ghost use Rattle.std.specs.Prelude.{◌≡◌, ◌≤◌, ℕ, [], length, vec_capacity, IfOk};
 ghost use Rattle.entry_base.specs.Lists.{AreIn, count_in};
-ghost use Rattle.entry_base.specs.Openings.{phase_of, sizes_in};
+ghost use Rattle.entry_base.specs.Openings.{sizes_in};
 ghost use Rattle.entry_base.specs.Sessions.{view, IsOf};
 ghost use Rattle.marker.specs.Runs.{Runs};
 
@@ -36,11 +36,11 @@ impl Marker {
         }
     }
 
-    /// Scans the objects of `from`, which the session's hands have, each once, and all objects that it shades by them, in a cycle;
-    /// the marker has room for all objects of the table. The answer is the number of scans. It takes no memory.
+    /// Scans the objects of `from`, which the session's hands have, each once, and all objects that it shades by them (`Runs` of
+    /// `specs/Runs.antt`); the marker has room for all objects of the table. The answer is the number of scans. Hands have objects
+    /// only in a cycle. It takes no memory.
     pub fn run(&mut self, shared: &Shared, s: &mut Session, from: &[u32]) -> u32
         requires caller { IsOf shared.now s.old }
-        requires in_cycle { phase_of (view s.old).opening ≡ 1 }
         requires hands { AreIn from.now (view s.old).hands }
         requires once { (q : ℕ) → count_in q from.now ≤ 1 }
         requires room { (sizes_in (view s.old).opening).objects ≤ self.old }

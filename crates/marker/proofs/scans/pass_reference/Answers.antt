@@ -16,7 +16,7 @@ push_reserved-requires c =
     let r = c.in-Some.ensures in
     let hands = now_white c.in-Some.target _ _ _ e.shaded.hands c.if-shade.true ∙ ap (λ l. c.in-Some.target ∷ l) r.leaves.hands in
     let room = has_room _ (view c.shade.new.s) (view c.args.s.now).hands c.args.stack.now.items c.in-Some.target c.args.object (vec_capacity c.args.stack.now) e.caller.1 hands e.shaded.once c.requires.hands
-        (subst (λ o. (sizes_in o).objects ≤ vec_capacity c.args.stack.now) c.requires.caller.1.opened c.requires.room) in
+    (subst (λ o. (sizes_in o).objects ≤ vec_capacity c.args.stack.now) c.requires.caller.1.opened c.requires.room) in
     let long = c.args.stack.now.ok in
     omega (arith, room, long)
 
