@@ -31,6 +31,21 @@ pub fn make_next(shared: &Shared, s: &mut Session, var: u32, count: u32) -> bool
     new_step(shared, s, var, count) == count as u64
 }
 
+/// A mutator tries once to make an object in variable 0, whose number is the count that is loaded. True where the try won.
+pub fn try_new(shared: &Shared, mut s: Session) -> (Session, bool)
+    requires caller { IsOf shared.now s }
+    requires mutator { (view s).number < 8 }
+    ensures caller { IsOf shared.now result.0 }
+    ensures same { SameCaller (view s) (view result.0) }
+{
+    let count = load_count(shared, &mut s) as u32;
+    if count >= shared.objects {
+        return (s, false);
+    }
+    let found = new_step(shared, &mut s, 0, count);
+    (s, found == count as u64)
+}
+
 /// Takes the head of a space, whose freelist word is expected to be `word`, and whose head to link `next`. The answer is the index;
 /// `None` where another word or link was found.
 pub fn take_head<L: Ledger>(

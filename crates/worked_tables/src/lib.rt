@@ -14,7 +14,7 @@ mod segments;
 mod words;
 
 pub use closings::{close_both, close_five, close_three, close_whole};
-pub use fillings::{make_next, put_hidden, put_next, take_head, take_two};
+pub use fillings::{make_next, put_hidden, put_next, take_head, take_two, try_new};
 pub use openings::{open, open_fresh};
 pub use segments::{SHAPE, commit_linked, link_two, take_three};
 pub use words::{change_at, word_at};

@@ -1,4 +1,4 @@
-use Rattle.worked_cycles.proofs.thread_tests.two_threads_take_one_index_or_two.Given as goal
+use Rattle.worked_sessions.proofs.thread_tests.two_threads_take_one_index_or_two.Given as goal
 
 abbrev pub ghosts-both_take-L-Ledger : goal.ghosts-both_take-L-Ledger
 ghosts-both_take-L-Ledger g a = record { name = a.one.1.name; parts = a.one.1.parts }
