@@ -16,6 +16,7 @@ for crate in $below; do
     grep "^$crate:" "$top/crates.txt" >> "$work/crates.txt"
     cp -r "$top/crates/$crate" "$work/crates"
 done
+# shellcheck disable=SC2086
 echo call_times: $below atomic_table >> "$work/crates.txt"
 cp -r "$top/bench/call_times" "$work/crates"
 find "$work/crates/call_times" -name '*.in' | while read -r file; do mv "$file" "${file%.in}"; done
@@ -25,13 +26,15 @@ find "$work/crates/call_times" -name '*.in' | while read -r file; do mv "$file" 
 calls() {
     "$work/crates/call_times/out/call_times" "$@"
 }
-# row NAME KNOWN KIND STEPS THREADS [WITHOUT]: nanoseconds a call of one thread, less the time of the kind WITHOUT, which does what
-# stands around the calls alone
+# row NAME KNOWN KIND STEPS THREADS [WITHOUT]: nanoseconds a call of one thread, less the time of the kind WITHOUT, which makes the
+# other calls of the turn alone; KNOWN is V8's figure on one thread
 row() {
     spent=$(calls "$3" "$4" "$5") || exit 1
     around='0 0'
     if [ -n "$6" ]; then around=$(calls "$6" "$4" "$5") || exit 1; fi
-    echo "$spent $around" | awk -v name="$1" -v known="$2" -v threads="$5" '
+    known=
+    if [ "$5" = 1 ]; then known=$2; fi
+    echo "$spent $around" | awk -v name="$1" -v known="$known" -v threads="$5" '
         $2 == 0 { print "bench: no call of " name " had its answer"; exit 1 }
         { printf "| %s | %d | %.2f ns | %s |\n", name, threads, ($1 - $3) * threads / $2, known }' || exit 1
 }
@@ -59,11 +62,12 @@ for threads in 1 4; do
     row 'fetch, the next object' '' fetch 10000000 $threads
     row 'fetch, objects in a random order' '' walk 10000000 $threads
 done
-for row in '1 50' '2 10' '3 7' '4'; do
-    threads=${row% *}
-    known=${row#"$threads"}
-    rate 'take and put, segments committed before' "${known:+${known# } M/s}" put $(((65535 + threads - 1) / threads)) "$threads"
-done
-for threads in 1 2 3 4; do
-    rate 'take and put, segments committed by the takes' '' put_fresh $(((65535 + threads - 1) / threads)) $threads
-done
+# takes FORM KIND: of one space, all of its 65,535 indexes
+takes() {
+    rate "take and put, $1" '50 M/s' "$2" 65535 1
+    rate "take and put, $1" '10 M/s' "$2" 32768 2
+    rate "take and put, $1" '7 M/s' "$2" 21845 3
+    rate "take and put, $1" '' "$2" 16384 4
+}
+takes 'segments committed before' put
+takes 'segments committed by the takes' put_fresh
