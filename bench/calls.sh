@@ -56,7 +56,8 @@ for threads in 1 4; do
     row 'store, one field' '8 to 10 ns' store 20000000 $threads
     row 'store, fields of objects in a random order' '' walk_store 10000000 $threads walk
     row 'raw store, random words' '' raw_store 20000000 $threads
-    row 'init, free fields' '20 to 31 ns' init $part $threads fetch
+    row 'init, segments committed before' '20 to 31 ns' init $part $threads fetch
+    row 'init, segments committed by the inits' '20 to 31 ns' init_fresh $part $threads fetch
     row 'mark, cells without a mark' '9 to 12 ns' mark $part $threads shade
     row 'mark, a marked cell' '4 to 7 ns' marked 10000000 $threads
     row 'fetch, the next object' '' fetch 10000000 $threads
