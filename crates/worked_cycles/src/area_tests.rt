@@ -221,6 +221,28 @@ fn put_in_area<L: Ledger>(rt: &impl Abort, shared: &Shared, s: &mut Session, ste
     put_external(shared, s, 5, 0x0f, 0xd0);
 }
 
+/// Takes all that is below the area, one index of it with a miss, aborts the compaction, and takes an index of the area, where the
+/// area begins at 4.
+fn spend_and_abort<L: Ledger>(
+    rt: &impl Abort,
+    shared: &Shared,
+    first: &mut Session,
+    marker: &mut Session,
+    steps: &mut Steps<L>,
+)
+    requires callers { IsOf shared.now first.old × IsOf shared.now marker.old }
+    ensures callers { IsOf shared.now first.new × IsOf shared.now marker.new }
+    ensures same { SameCaller (view first.old) (view first.new) × SameCaller (view marker.old) (view marker.new) }
+    ensures ticked { steps.new ≡ steps.old + 5 }
+{
+    assert_eq!(rt; first.area(), Some(4));
+    assert_eq!(rt; marker.area(), Some(4));
+    take_below_with_stale_word(rt, shared, first, marker, steps);
+    take_last_below(rt, shared, first, steps);
+    abort_full(rt, shared, marker);
+    put_in_area(rt, shared, first, steps);
+}
+
 fn miss_and_abort<L: Ledger, M: Ledger>(
     rt: &impl Abort,
     alloc: Global,
@@ -235,13 +257,9 @@ fn miss_and_abort<L: Ledger, M: Ledger>(
     assert_eq!(rt; word_at(&image, 1), Some(4));
     assert_eq!(rt; word_at(&image, 69), Some((1 << 56) + 6));
     let (shared, mut first) = open(alloc, image)?;
-    assert_eq!(rt; first.area(), Some(4));
     let mut marker = first.split(&shared, 8, &[]);
     let mut steps = Steps::<L>::start(blank);
-    take_below_with_stale_word(rt, &shared, &mut first, &mut marker, &mut steps);
-    take_last_below(rt, &shared, &mut first, &mut steps);
-    abort_full(rt, &shared, &mut marker);
-    put_in_area(rt, &shared, &mut first, &mut steps);
+    spend_and_abort(rt, &shared, &mut first, &mut marker, &mut steps);
     let after = close_both(shared, first, marker);
     assert_eq!(rt; word_at(&after, 0), Some(0x2_0000_0006));
     assert_eq!(rt; word_at(&after, 1), Some(0x1_0000_0004));
@@ -249,14 +267,14 @@ fn miss_and_abort<L: Ledger, M: Ledger>(
     Ok(())
 }
 
-/// Takes index 1, which is below the area, and fills it before any abort.
+/// Takes index 1, which is below the area that begins at 4, and fills it before any abort.
 fn put_below<L: Ledger>(rt: &impl Abort, shared: &Shared, s: &mut Session, steps: &mut Steps<L>)
     requires caller { IsOf shared.now s.old }
-    requires area { start_of (view s.old).opening ≡ Some 4 }
     ensures caller { IsOf shared.now s.new }
     ensures same { SameCaller (view s.old) (view s.new) }
     ensures ticked { steps.new ≡ steps.old + 1 }
 {
+    assert_eq!(rt; s.area(), Some(4));
     let taken = take_head(shared, s, Space::External, 0x6_0000_0001, 2, steps);
     assert_eq!(rt; taken, Some(1));
     put_external(shared, s, 1, 0x0f, 0xd0);
@@ -275,7 +293,6 @@ fn fill_below<L: Ledger, M: Ledger>(
     let image = image_to_move::<M>(rt, alloc, made)?;
     assert_eq!(rt; word_at(&image, 65), Some((1 << 56) + 2));
     let (shared, mut session) = open(alloc, image)?;
-    assert_eq!(rt; session.area(), Some(4));
     let mut steps = Steps::<L>::start(blank);
     put_below(rt, &shared, &mut session, &mut steps);
     let after = close_whole(shared, session);
@@ -312,6 +329,20 @@ fn find_empty(rt: &impl Abort, shared: &Shared, s: &mut Session)
     assert_eq!(rt; word, 8);
 }
 
+/// Takes all that is free, from what is below the area on, which begins at 4, and finds the list empty.
+fn spend_all<L: Ledger>(rt: &impl Abort, shared: &Shared, s: &mut Session, steps: &mut Steps<L>)
+    requires caller { IsOf shared.now s.old }
+    ensures caller { IsOf shared.now s.new }
+    ensures same { SameCaller (view s.old) (view s.new) }
+    ensures ticked { steps.new ≡ steps.old + 6 }
+{
+    assert_eq!(rt; s.area(), Some(4));
+    put_below(rt, shared, s, steps);
+    take_last_below(rt, shared, s, steps);
+    take_area(rt, shared, s, steps);
+    find_empty(rt, shared, s);
+}
+
 fn spend_external<L: Ledger, M: Ledger>(
     rt: &impl Abort,
     alloc: Global,
@@ -324,12 +355,8 @@ fn spend_external<L: Ledger, M: Ledger>(
 {
     let image = image_to_move::<M>(rt, alloc, made)?;
     let (shared, mut session) = open(alloc, image)?;
-    assert_eq!(rt; session.area(), Some(4));
     let mut steps = Steps::<L>::start(blank);
-    put_below(rt, &shared, &mut session, &mut steps);
-    take_last_below(rt, &shared, &mut session, &mut steps);
-    take_area(rt, &shared, &mut session, &mut steps);
-    find_empty(rt, &shared, &mut session);
+    spend_all(rt, &shared, &mut session, &mut steps);
     let after = close_whole(shared, session);
     assert_eq!(rt; word_at(&after, 0), Some(8));
     Ok(())
