@@ -1,5 +1,5 @@
 -- One call after another, and rows of them.
-use Rattle.std.proofs.Common.{◌≡◌, ℕ, ◌+◌, ◌*◌, ◌==◌, if◌then◌else◌, Bool, true, List, [], ◌∷◌, ◌++◌, slice_index, slice_index_or, Option, None, option_map, refl, sym, ap, subst, subst₂, ◌∙◌, inl, inr, arith, append_assoc, append-nil}
+use Rattle.std.proofs.Common.{◌≡◌, ℕ, ◌+◌, ◌*◌, ◌≤◌, ◌==◌, if◌then◌else◌, Bool, true, List, [], ◌∷◌, ◌++◌, slice_index, slice_index_or, Option, None, option_map, refl, sym, ap, subst, subst₂, ◌∙◌, inl, inr, arith, append_assoc, append-nil}
 use Rattle.std.proofs.lemmas.Bool.Decides.{nat_tests}
 use Rattle.plain_table.specs.declared.events.Event.{Event}
 use Rattle.plain_table.specs.declared.scripts.Op.{Op}
@@ -17,9 +17,9 @@ use Rattle.entry_base.specs.Numbers.{HasNumber, IsQuiet}
 use Rattle.entry_base.specs.Openings.{phase_of, start_of}
 use Rattle.entry_base.specs.Sessions.{ticket_in}
 use Rattle.entry_base.proofs.JoinedEvents.{events_append, events_none}
-use Rattle.entry_base.proofs.OneByOne.{same_trans}
+use Rattle.entry_base.proofs.OneByOne.{own_trans, same_trans}
 use Rattle.entry_base.proofs.Sums.{each_append, each_map}
-use Rattle.call_base.specs.Called.{Called, EndsWith, IsHere, Made, MadeAll, Suits}
+use Rattle.call_base.specs.Called.{Called, EndsWith, IsHere, LeavesOwn, Made, MadeAll, Suits}
 
 events_quiet : (v : View) (es : List Event) → HasNumber v v.number → IsQuiet v es → events_by v.number es ≡ []
 events_quiet v es own q = events_none v.number v.numbers es own q
@@ -78,6 +78,14 @@ called_trans u v w es fs a b = record {
 -- a call after calls, its events said by the first number
 pub called_then : (u v w : View) (es : List Event) (fs : ℕ → List Event) → Called u es v → Called v (fs v.number) w → Called u (es ++ fs u.number) w
 called_then u v w es fs a b = called_trans u v w es (fs u.number) a (subst (λ n. Called v (fs n) w) a.same.number b)
+
+-- the number of a caller stays one of its own
+pub own_number : (u v : View) → SameCaller u v → HasNumber u u.number → HasNumber v v.number
+own_number u v s own = subst (λ n. HasNumber v n) (sym s.number) (subst (λ l. 1 ≤ count_in u.number l) (sym s.numbers) own)
+
+-- what two calls leave, they leave together
+pub leaves_trans : (u v w : View) → LeavesOwn u v → LeavesOwn v w → LeavesOwn u w
+leaves_trans u v w a b = record { own = own_trans u v w a.own b.own; hands = b.hands ∙ a.hands }
 
 -- the history ends with an event that was added last
 pub EndsWith-last : (es : List Event) (e : Event) (front seen : List Event) → seen ≡ front ++ e ∷ [] → EndsWith (es ++ e ∷ []) seen

@@ -84,12 +84,6 @@ placed_leaves v x w t number word same owes e = record {
   hands = e.rest.3 ∙ owes.rest.3;
 }
 
-pub leaves_then : (u v w : View) → LeavesOwn u v → LeavesOwn v w → LeavesOwn u w
-leaves_then u v w a b = record {
-  own = record { vars = b.own.vars ∙ a.own.vars; pending = b.own.pending ∙ a.own.pending; owed = b.own.owed ∙ a.own.owed; fresh = b.own.fresh ∙ a.own.fresh };
-  hands = b.hands ∙ a.hands;
-}
-
 -- two events after a call without one
 pub adds_two : (u v w : View) (first second : Act) (got said : Reply) → Called u [] v → OneThenOne v first got second said w
     → Adds u (event_of u first got ∷ event_of u second said ∷ []) w

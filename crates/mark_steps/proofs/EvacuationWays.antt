@@ -24,13 +24,12 @@ use Rattle.entry_rule.specs.Entries.{AreaLoaded, IsUnaborted}
 use Rattle.mark_rule.specs.Marking.{EntryLoaded, NoneThere, SomeThere}
 use Rattle.call_base.specs.Called.{Called}
 use Rattle.call_base.specs.ScanParts.{ScanPart}
-use Rattle.call_base.proofs.CallsInOrder.{called_looks, called_trans}
+use Rattle.call_base.proofs.CallsInOrder.{called_looks, called_trans, own_number}
 use Rattle.mark_steps.specs.declared.answers.Evacuated.{Evacuated}
 use Rattle.mark_steps.specs.declared.answers.Evacuated.TheVariants as evacuated
 use Rattle.mark_steps.specs.Evacuations.{HasToMove, IsAborted, IsEvacuatedBy, IsPlacedBy, StaysThere, WasUnaborted}
 use Rattle.mark_steps.proofs.EvacuationParts.{aborted_part, failed_part, placed_part}
 use Rattle.mark_steps.proofs.EvacuationTurns.{aborted_after, aborted_known, adds_two, unmoved_aborted, unmoved_placed}
-use Rattle.mark_steps.proofs.MarkTurns.{own_stays}
 
 -- an external field of an object, by its number
 pub field_is : (o n : ℕ) → n < 2 → field_of o n ≡ field.External (2 * o + n)
@@ -59,7 +58,7 @@ module _ (v x u : View) (f : Field) (number word start found got : ℕ) (externa
   i = index_of word
 
   pub area_called : Called v [] u
-  area_called = called_trans v x u [] [] (entry_called v x f word found external own e) (called_looks x u (own_stays v x e.loaded.same own) a.loaded.same a.loaded.looks)
+  area_called = called_trans v x u [] [] (entry_called v x f word found external own e) (called_looks x u (own_number v x e.loaded.same own) a.loaded.same a.loaded.looks)
 
   stood : SomeThere v.opening x.seen External i
   stood = subst (λ p. SomeThere v.opening x.seen p i) external (e.some tagged)

@@ -1,5 +1,5 @@
 -- The ways through a mark: the load finds no cell, or a marked one; or the exchange sets the mark, or finds it set.
-use Rattle.std.proofs.Common.{◌≡◌, ◌≢◌, ℕ, ◌/◌, ◌%◌, ◌^◌, ◌<◌, ◌≤◌, Bool, true, false, [], ◌∷◌, ◌++◌, refl, sym, subst, ◌∙◌, arith, append_assoc}
+use Rattle.std.proofs.Common.{◌≡◌, ◌≢◌, ℕ, ◌/◌, ◌%◌, ◌^◌, ◌<◌, Bool, true, false, [], ◌∷◌, ◌++◌, refl, sym, subst, ◌∙◌, arith, append_assoc}
 use Rattle.std.proofs.lemmas.Bool.Decides.{nat_tests}
 use Rattle.plain_table.specs.declared.events.Act.TheVariants as act
 use Rattle.plain_table.specs.declared.events.Event.{Event}
@@ -13,19 +13,14 @@ use Rattle.plain_table.specs.Table.{limit_in}
 use Rattle.plain_table.proofs.Options.{IsSomeAnd-is, IsSomeAnd-some, IsSome-value}
 use Rattle.word_laws.specs.ReadLaws.{has_mark, tag_bits}
 use Rattle.entry_base.specs.declared.view.View.{View}
-use Rattle.entry_base.specs.Callers.{SameCaller, event_of}
-use Rattle.entry_base.specs.Lists.{count_in}
+use Rattle.entry_base.specs.Callers.{event_of}
 use Rattle.entry_base.specs.Numbers.{HasNumber}
 use Rattle.entry_base.specs.Openings.{sizes_in}
 use Rattle.mark_rule.specs.Marking.{EntryLoaded, HasMarkAfter, IsMarkedWord, MarkExchanged, MarkLoaded, Marked, NoneThere, SomeThere}
 use Rattle.call_base.specs.Called.{Called}
-use Rattle.call_base.proofs.CallsInOrder.{called_extends, called_looks, called_then}
+use Rattle.call_base.proofs.CallsInOrder.{called_extends, called_looks, called_then, own_number}
 use Rattle.call_base.proofs.HistoriesStay.{legal_rest}
 use Rattle.mark_steps.specs.Marks.{HadMark}
-
--- the number of a view stays its own
-pub own_stays : (v w : View) → SameCaller v w → HasNumber v v.number → HasNumber w w.number
-own_stays v w same own = subst (λ n. 1 ≤ count_in n w.numbers) (sym same.number) (subst (λ l. 1 ≤ count_in v.number l) (sym same.numbers) own)
 
 -- a cell stood where a mark was legal
 mark_found : (v w : View) (p : Space) (i : ℕ) (had : Bool) (m : Marked v p i had w) → SomeThere v.opening m.before p i
@@ -88,7 +83,7 @@ module _ (v : View) (f : Field) (word found : ℕ) (w : View) (own : HasNumber v
 
     pub exchange_called : Called v (e ∷ []) u
     exchange_called = called_then v w u [] (λ b. record { by = b; act = act.Mark p i; said = reply.Ok } ∷ []) (called_looks v w own stands.loaded.same stands.loaded.looks)
-        (called_extends w u (event_of w (act.Mark p i) reply.Ok) refl (own_stays v w stands.loaded.same own) marked.same marked.extends)
+        (called_extends w u (event_of w (act.Mark p i) reply.Ok) refl (own_number v w stands.loaded.same own) marked.same marked.extends)
 
     last : u.seen ≡ marked.before ++ e ∷ []
     last = subst (λ b. u.seen ≡ marked.before ++ record { by = b; act = act.Mark p i; said = reply.Ok } ∷ []) stands.loaded.same.number marked.last

@@ -27,7 +27,7 @@ use Rattle.entry_base.specs.declared.view.View.{View}
 use Rattle.entry_base.specs.Callers.{IsCaller, event_of}
 use Rattle.entry_base.specs.Facts.{IsKnown}
 use Rattle.entry_base.specs.Lists.{Each}
-use Rattle.entry_base.specs.Openings.{IsOpenable, sizes_in, phase_of}
+use Rattle.entry_base.specs.Openings.{sizes_in, phase_of}
 use Rattle.entry_base.specs.Owns.{IsHeld}
 use Rattle.entry_base.specs.Rule.{Kept}
 use Rattle.entry_base.proofs.QuietSteps.{kept_event}
@@ -119,4 +119,4 @@ names_trusted key slots id me o caller mutator held =
     let found : ℕ = slice_index words (field_place (field.Trusted o)) in
     let done = kept_name key words views id me.0 k at caller mutator (field.Trusted o) held (named_facts me.0.opening o found)
     (λ s g is. knows key k.log _ k.shown words me.0 caller mutator o held s g found is) in
-    (_, loads key words _ (field_place (field.Trusted o)) done.0, record { named = done.1; openable = subst IsOpenable (sym caller.opened) (record { base = k.base; is_base = k.is_base; small = k.few }); facts = refl }))
+    (_, loads key words _ (field_place (field.Trusted o)) done.0, record { named = done.1; facts = refl }))

@@ -15,7 +15,7 @@ use Rattle.entry_base.specs.declared.view.View.{View}
 use Rattle.entry_base.specs.Callers.{SameCaller, Extends, event_of}
 use Rattle.entry_base.specs.Learned.{Answered}
 use Rattle.entry_base.specs.Lists.{Has}
-use Rattle.entry_base.specs.Openings.{IsOpenable, phase_of}
+use Rattle.entry_base.specs.Openings.{phase_of}
 use Rattle.entry_base.specs.Owns.{without_claim}
 
 -- a field was named: words of external fields have 32 bits
@@ -32,8 +32,6 @@ named_facts key o (suc n) =
 
 pub record NamedTrusted (v : View) (o found : ℕ) (w : View) : Type 0 where
   pub named : Named v (field.Trusted o) found w
-  -- there is a table that the phase may have begun in, so that the facts are true of one
-  pub openable : IsOpenable v.opening
   pub facts : w.facts ≡ named_facts v.opening o found ++ v.facts
 
 -- a fresh cell was bound to a field, or the field's word was found; either way it is no fresh one any more

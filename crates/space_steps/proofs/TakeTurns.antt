@@ -18,14 +18,14 @@ use Rattle.entry_base.specs.declared.view.Fact.TheVariants as fact
 use Rattle.entry_base.specs.declared.view.View.{View}
 use Rattle.entry_base.specs.Callers.{SameCaller, Looks, Extends, event_of}
 use Rattle.entry_base.specs.Learned.{Loaded}
-use Rattle.entry_base.specs.Lists.{Has, count_in}
+use Rattle.entry_base.specs.Lists.{Has}
 use Rattle.entry_base.specs.Numbers.{HasNumber}
 use Rattle.entry_base.specs.Openings.{sizes_in}
 use Rattle.entry_base.specs.Owns.{claim_of, without_claim}
 use Rattle.entry_base.specs.Ranks.{takes_in, takes_of}
 use Rattle.entry_base.proofs.OneByOne.{own_trans, same_trans}
 use Rattle.call_base.specs.Called.{Called, EndsWith, LeavesOwn}
-use Rattle.call_base.proofs.CallsInOrder.{called_none, called_looks, called_extends, called_trans, EndsWith-last}
+use Rattle.call_base.proofs.CallsInOrder.{called_none, called_looks, called_extends, called_trans, leaves_trans, own_number, EndsWith-last}
 use Rattle.freelist_rule.specs.Freelists.{FreelistLoaded, IsFreelistIn, IsOutOfRoom, IsSpent, TookHead, MissedHead}
 use Rattle.space_steps.specs.declared.tickets.Taken.{Taken}
 use Rattle.space_steps.specs.declared.tickets.Taken.TheVariants as taken
@@ -49,15 +49,9 @@ takes_one v w p e one x =
     let c = takes_in-append p v.seen x.between in
     omega arith
 
-pub leaves_trans : (u v w : View) → LeavesOwn u v → LeavesOwn v w → LeavesOwn u w
-leaves_trans u v w a b = record { own = own_trans u v w a.own b.own; hands = b.hands ∙ a.hands }
-
--- the number of a caller stays, and so its events
+-- the events of a caller stay those of its number
 pub same_event : (u v : View) → SameCaller u v → (a : Act) (r : Reply) → event_of v a r ≡ event_of u a r
 same_event u v s a r = ap (λ (n : ℕ). record { by = n; act = a; said = r }) s.number
-
-pub own_number : (u v : View) → SameCaller u v → HasNumber u u.number → HasNumber v v.number
-own_number u v s own = subst (λ n. HasNumber v n) (sym s.number) (subst (λ l. 1 ≤ count_in u.number l) (sym s.numbers) own)
 
 -- an event after a call without one
 pub called_event : (u v w : View) (a : Act) (r : Reply) → HasNumber u u.number → Called u [] v → SameCaller v w → Extends v (event_of v a r) w

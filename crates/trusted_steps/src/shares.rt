@@ -1,32 +1,19 @@
 // Sharing: a second trusted field is bound to the entry of a first one.
-ghost use Rattle.std.specs.Prelude.{◌≡◌, ◌≢◌, ◌↔◌, ◌⊎◌, ◌<◌, [], ◌∷◌, None};
-ghost use Rattle.plain_table.specs.declared.events.Act.TheVariants as act;
-ghost use Rattle.plain_table.specs.declared.events.Field.TheVariants as field;
-ghost use Rattle.plain_table.specs.declared.events.Space.TheVariants.{Trusted};
+ghost use Rattle.std.specs.Prelude.{◌≡◌, ◌≢◌, ◌↔◌, ◌⊎◌, ◌<◌, None};
 ghost use Rattle.plain_table.specs.declared.reports.Reply.TheVariants as reply;
 ghost use Rattle.plain_table.specs.declared.scripts.Op.TheVariants as op;
-ghost use Rattle.plain_table.specs.Index.{index_of};
-ghost use Rattle.plain_table.specs.Table.{limit_in};
-ghost use Rattle.entry_base.specs.declared.view.Fact.TheVariants as fact;
-ghost use Rattle.entry_base.specs.Callers.{event_of};
-ghost use Rattle.entry_base.specs.Lists.{Has};
-ghost use Rattle.entry_base.specs.Openings.{IsOpenable, sizes_in, phase_of};
+ghost use Rattle.entry_base.specs.Openings.{phase_of};
 ghost use Rattle.entry_base.specs.Owns.{IsHeld};
 ghost use Rattle.entry_base.specs.Sessions.{view, held_in, IsOf};
 ghost use Rattle.object_rule.specs.Fields.{IsMarkedInCycle};
 ghost use Rattle.call_base.specs.Called.{Called, LeavesOwn, Made};
+ghost use Rattle.mark_steps.specs.Words.{SawShared};
 ghost use Rattle.trusted_steps.specs.Shares.{SharesEntry, mark_for};
 
 use entry_base::{Session, Shared};
-use mark_rule::{load_mark, mark_step};
+use mark_steps::share_mark;
 use object_rule::{bind_shared, name_trusted};
-use plain_table::{Reply, Space};
-
-/// The bit of a mark in the word of an entry.
-const MARK: u64 = 1 << 62;
-
-/// The trusted field of an object, by its place among the fields.
-const TRUSTED: u32 = 2;
+use plain_table::Reply;
 
 /// Binds the trusted field of the object of one variable to the entry that another one's names, both below 16. It answers Empty
 /// exactly where one of the variables holds nothing; else Null exactly where the first one's field is 0; else Taken exactly where
@@ -76,42 +63,13 @@ fn share_entry(shared: &Shared, s: &mut Session, source: u32, target: u32) -> Re
 /// In a cycle, marks the trusted cell that the word of an object's trusted field names.
 fn mark_in_cycle(shared: &Shared, s: &mut Session, object: u32, word: u32)
     requires caller { IsOf shared.now s.old }
-    requires openable { IsOpenable (view s.old).opening }
-    requires inside { index_of word < limit_in (sizes_in (view s.old).opening) Trusted }
-    requires settled { Has (view s.old).facts (fact.Settled (index_of word)) }
-    requires touched { phase_of (view s.old).opening ≢ 0 → Has (view s.old).facts (fact.Touched (field.Trusted object) word) }
+    requires saw { phase_of (view s.old).opening ≢ 0 → SawShared (view s.old) object word }
     ensures caller { IsOf shared.now s.new }
     ensures called { Called (view s.old) (mark_for (view s.old).number (phase_of (view s.old).opening) word) (view s.new) }
     ensures leaves { LeavesOwn (view s.old) (view s.new) }
     ensures marked { IsMarkedInCycle (view s.new) word }
 {
     if s.in_cycle() {
-        mark_cell(shared, s, object, word);
-    }
-}
-
-/// Marks the trusted cell that the word of an object's trusted field names, or finds it marked.
-fn mark_cell(shared: &Shared, s: &mut Session, object: u32, word: u32)
-    requires caller { IsOf shared.now s.old }
-    requires openable { IsOpenable (view s.old).opening }
-    requires inside { index_of word < limit_in (sizes_in (view s.old).opening) Trusted }
-    requires settled { Has (view s.old).facts (fact.Settled (index_of word)) }
-    requires touched { Has (view s.old).facts (fact.Touched (field.Trusted object) word) }
-    ensures caller { IsOf shared.now s.new }
-    ensures called { Called (view s.old) (event_of (view s.old) (act.Mark Trusted (index_of word)) reply.Ok ∷ []) (view s.new) }
-    ensures leaves { LeavesOwn (view s.old) (view s.new) }
-    ensures marked { Has (view s.new).facts (fact.Marked Trusted (index_of word)) }
-{
-    let entry = load_mark(shared, s, Space::Trusted, object, TRUSTED, word);
-    if entry / MARK % 2 == 0 {
-        mark_step(
-            shared,
-            s,
-            Space::Trusted,
-            object,
-            TRUSTED,
-            word,
-            entry % MARK,
-        );
+        share_mark(shared, s, object, word);
     }
 }

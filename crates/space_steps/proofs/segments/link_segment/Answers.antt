@@ -5,8 +5,7 @@ use Rattle.entry_base.specs.declared.view.Fact.TheVariants as fact
 use Rattle.entry_base.specs.declared.view.View.{View}
 use Rattle.entry_base.specs.Callers.{SameCaller}
 use Rattle.entry_base.specs.Lists.{Has}
-use Rattle.call_base.proofs.CallsInOrder.{called_looks, called_trans}
-use Rattle.space_steps.proofs.TakeTurns.{leaves_trans}
+use Rattle.call_base.proofs.CallsInOrder.{called_looks, called_trans, leaves_trans}
 use Rattle.space_steps.proofs.segments.link_segment.Goals as goal
 
 linked_on : (v w : View) (p : Space) (head index : ℕ) → SameCaller v w → Has w.facts (fact.Linked p index)

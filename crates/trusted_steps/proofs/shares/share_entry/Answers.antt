@@ -1,12 +1,10 @@
-use Rattle.std.proofs.Common.{◌<◌, sym, subst}
-use Rattle.plain_table.specs.declared.events.Space.TheVariants.{Trusted}
-use Rattle.plain_table.specs.Index.{index_of}
-use Rattle.plain_table.specs.Table.{limit_in}
-use Rattle.entry_base.specs.Openings.{sizes_in}
+use Rattle.std.proofs.Common.{◌≢◌, subst}
+use Rattle.entry_base.specs.Openings.{phase_of}
 use Rattle.entry_base.specs.Sessions.{view}
 use Rattle.object_rule.specs.Fields.{NamedTrusted}
 use Rattle.access_steps.proofs.NewBindings.{bind_reply-free, bind_reply-taken}
-use Rattle.trusted_steps.proofs.SharedMarks.{SharesEntry-null, SharesEntry-bound, named_inside}
+use Rattle.mark_steps.proofs.SharedMarks.{saw_named}
+use Rattle.trusted_steps.proofs.SharedMarks.{SharesEntry-null, SharesEntry-bound}
 use Rattle.trusted_steps.proofs.shares.share_entry.Goals as goal
 
 pub returns-then-word-eq0-clause-shares : goal.returns-then-word-eq0-clause-shares
@@ -14,11 +12,11 @@ returns-then-word-eq0-clause-shares c =
     SharesEntry-null (view c.args.s.now) (view c.name_trusted-word.new.s) c.args.source c.args.target c.requires.caller.1.own
     (subst (λ n. NamedTrusted (view c.args.s.now) c.args.source n (view c.name_trusted-word.new.s)) c.if-word-eq0.true c.name_trusted-word.ensures.learned)
 
-pub mark_in_cycle-requires-clause-inside : goal.mark_in_cycle-requires-clause-inside
-mark_in_cycle-requires-clause-inside c =
+pub mark_in_cycle-requires-clause-saw : goal.mark_in_cycle-requires-clause-saw
+mark_in_cycle-requires-clause-saw c cycle =
     let n = c.name_trusted-word.ensures.learned in
-    subst (λ o. index_of c.name_trusted-word.result < limit_in (sizes_in o) Trusted) (sym n.named.answered.same.opening)
-    (named_inside (view c.args.s.now) (view c.name_trusted-word.new.s) c.args.source c.name_trusted-word.result n c.if-word-eq0.false)
+    saw_named (view c.args.s.now) (view c.name_trusted-word.new.s) c.args.source c.name_trusted-word.result n c.if-word-eq0.false
+    (subst (λ o. phase_of o ≢ 0) n.named.answered.same.opening cycle)
 
 pub returns-then-found-eq0-clause-shares : goal.returns-then-found-eq0-clause-shares
 returns-then-found-eq0-clause-shares c =

@@ -1,0 +1,4 @@
+pub mod Counts
+pub mod ScansOnce
+pub mod Stacks
+pub mod Passes
