@@ -124,16 +124,16 @@ fn work_at_once(rt: &impl Abort, shared: &Shared, mut s: Session, number: u64) -
 fn both_work<R: Threads + Sync + Abort>(
     rt: &R,
     shared: &Shared,
-    one: Session,
-    two: Session,
+    pair: (Session, Session),
     number: u64,
 ) -> ((Session, Work), (Session, Work))
-    requires callers { IsOf shared.now one × IsOf shared.now two }
-    requires mutators { ((view one).number < 8) × ((view two).number < 8) }
+    requires callers { IsOf shared.now pair.0 × IsOf shared.now pair.1 }
+    requires mutators { ((view pair.0).number < 8) × ((view pair.1).number < 8) }
     requires small { number < 7 }
     ensures callers { IsOf shared.now result.0.0 × IsOf shared.now result.1.0 }
-    ensures same { SameCaller (view one) (view result.0.0) × SameCaller (view two) (view result.1.0) }
+    ensures same { SameCaller (view pair.0) (view result.0.0) × SameCaller (view pair.1) (view result.1.0) }
 {
+    let (one, two) = pair;
     join(
         rt,
         || work_at_once(rt, shared, one, number),
@@ -208,7 +208,7 @@ fn two_threads_work_at_once(rt: HostRuntime) -> Result<(), OutOfMemory> {
     let (shared, mut first) = open(rt.alloc(), image)?;
     let one = first.split(&shared, 0, &[]);
     let two = first.split(&shared, 1, &[]);
-    let ((one, here), (two, there)) = both_work(&rt, &shared, one, two, 0);
+    let ((one, here), (two, there)) = both_work(&rt, &shared, (one, two), 0);
     let image = close_three(shared, first, one, two);
     assert_whole(&rt, &image, 6, 0x1_0000_0007, 3);
     assert_eq!(rt; assert_both(&rt, &image, 0, here, there), 1);
@@ -233,12 +233,10 @@ fn all_work<R: Threads + Sync + Abort>(
     ensures same_low { SameCaller (view low.0) (view result.0.0.0) × SameCaller (view low.1) (view result.0.1.0) }
     ensures same_high { SameCaller (view high.0) (view result.1.0.0) × SameCaller (view high.1) (view result.1.1.0) }
 {
-    let (one, two) = low;
-    let (three, four) = high;
     join(
         rt,
-        || both_work(rt, shared, one, two, 0),
-        || both_work(rt, shared, three, four, 2),
+        || both_work(rt, shared, low, 0),
+        || both_work(rt, shared, high, 2),
     )
 }
 
