@@ -1,8 +1,7 @@
 #!/bin/sh
 # Times the calls of sessions on a shared table of 65,536 external entries and 16,384 objects, on one thread and on four, next to
 # V8's figures as they are known, each of a machine like this one: nanoseconds a call of one thread, and millions of takes a
-# second of all threads. Each figure is the least time of five runs, each on a new table, of the slowest thread from when all of
-# them have met.
+# second of all threads. Each figure is the least time of five runs, each on a new table.
 # It proves and builds `call_times` in a copy of the crates: its files end in `.in` here, since the gate reads every file of
 # code and takes none outside of crates/. Nothing of this is part of the gate.
 top=$(dirname -- "$(readlink -f -- "$0")")/..
@@ -23,7 +22,7 @@ cp -r "$top/bench/call_times" "$work/crates"
 find "$work/crates/call_times" -name '*.in' | while read -r file; do mv "$file" "${file%.in}"; done
 (cd "$work/crates/call_times" && rt run -- load 1 1 > "$work/log" 2>&1) || { cat "$work/log"; exit 1; }
 
-# calls KIND STEPS THREADS: that time in nanoseconds, and how many calls all threads made in it
+# calls KIND STEPS THREADS: the least time of all threads in nanoseconds, and how many calls were made in it
 calls() {
     "$work/crates/call_times/out/call_times" "$@"
 }
