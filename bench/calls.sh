@@ -1,7 +1,9 @@
 #!/bin/sh
 # Times the calls of sessions on a shared table of 65,536 external entries and 16,384 objects, on one thread and on four, next to
 # V8's figures as they are known, each of a machine like this one: nanoseconds a call of one thread, and millions of takes a
-# second of all threads. Each figure is the least time of five runs, each on a new table.
+# second of all threads. Each figure is the least time of five runs, each on a new table, from the first thread's begin to the last
+# one's end. The last column says in how much of that time all threads were at work: where it is far below 100 %, the machine had
+# no processor for each thread, and the figure says little of calls at once.
 # It proves and builds `call_times` in a copy of the crates: its files end in `.in` here, since the gate reads every file of
 # code and takes none outside of crates/. Nothing of this is part of the gate.
 top=$(dirname -- "$(readlink -f -- "$0")")/..
@@ -22,7 +24,7 @@ cp -r "$top/bench/call_times" "$work/crates"
 find "$work/crates/call_times" -name '*.in' | while read -r file; do mv "$file" "${file%.in}"; done
 (cd "$work/crates/call_times" && rt run -- load 1 1 > "$work/log" 2>&1) || { cat "$work/log"; exit 1; }
 
-# calls KIND STEPS THREADS: the least time of all threads in nanoseconds, and how many calls were made in it
+# calls KIND STEPS THREADS: that time in nanoseconds, how many calls were made in it, and the part in which all threads were at work
 calls() {
     "$work/crates/call_times/out/call_times" "$@"
 }
@@ -30,23 +32,23 @@ calls() {
 # other calls of the turn alone; KNOWN is V8's figure on one thread
 row() {
     spent=$(calls "$3" "$4" "$5") || exit 1
-    around='0 0'
+    around='0 0 0'
     if [ -n "$6" ]; then around=$(calls "$6" "$4" "$5") || exit 1; fi
     known=
     if [ "$5" = 1 ]; then known=$2; fi
     echo "$spent $around" | awk -v name="$1" -v known="$known" -v threads="$5" '
         $2 == 0 { print "bench: no call of " name " had its answer"; exit 1 }
-        { printf "| %s | %d | %.2f ns | %s |\n", name, threads, ($1 - $3) * threads / $2, known }' || exit 1
+        { printf "| %s | %d | %.2f ns | %s | %d %% |\n", name, threads, ($1 - $4) * threads / $2, known, $3 * 100 / $1 }' || exit 1
 }
 # rate NAME KNOWN KIND STEPS THREADS: millions of calls a second of all threads
 rate() {
     spent=$(calls "$3" "$4" "$5") || exit 1
     echo "$spent" | awk -v name="$1" -v known="$2" -v threads="$5" '
         $2 == 0 { print "bench: no call of " name " had its answer"; exit 1 }
-        { printf "| %s | %d | %.1f M/s | %s |\n", name, threads, $2 * 1000 / $1, known }' || exit 1
+        { printf "| %s | %d | %.1f M/s | %s | %d %% |\n", name, threads, $2 * 1000 / $1, known, $3 * 100 / $1 }' || exit 1
 }
-echo '| Calls | Threads | on the shared table | in V8 |'
-echo '|---|---|---|---|'
+echo '| Calls | Threads | on the shared table | in V8 | all at work |'
+echo '|---|---|---|---|---|'
 for threads in 1 4; do
     # the objects of one thread, of all 16,384
     part=$((16384 / threads))
