@@ -4,3 +4,4 @@ pub mod HeldVariables
 pub mod ScanParts
 pub mod HistoriesStay
 pub mod PassedParts
+pub mod Absorptions
