@@ -6,5 +6,7 @@
 
 mod marker;
 mod scans;
+mod steals;
 
 pub use marker::Marker;
+pub use steals::Dealt;
