@@ -2,3 +2,4 @@ pub mod Counts
 pub mod ScansOnce
 pub mod Stacks
 pub mod Passes
+pub mod ChunksTaken

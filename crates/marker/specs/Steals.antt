@@ -4,11 +4,14 @@ use Rattle.plain_table.specs.Scans.{Rest}
 use Rattle.entry_base.specs.declared.chunks.Chunk.{Chunk}
 use Rattle.entry_base.specs.declared.view.View.{View}
 use Rattle.entry_base.specs.Callers.{AreWithin, SameOwn}
+use Rattle.entry_base.specs.Joins.{Absorbed}
 use Rattle.entry_base.specs.Lists.{count_in}
+use Rattle.entry_base.specs.Sessions.{hands_of}
 use Rattle.call_base.specs.ScanParts.{ScanPart}
 use Rattle.chunk_pool.specs.declared.claims.Claims.{Claims}
 use Rattle.chunk_pool.specs.Claims.{with_end, Took}
 use Rattle.marker.specs.declared.steals.Dealt.{Dealt}
+use Rattle.marker.specs.Runs.{Runs}
 
 -- the objects of chunks
 abbrev pub objects_of : List Chunk → List ℕ
@@ -19,6 +22,12 @@ objects_of (chunk ∷ chunks) = chunk.objects.items ++ objects_of chunks
 abbrev pub TookAll : Claims → List Chunk → Claims → Type 0
 TookAll t [] u = u ≡ t
 TookAll t (chunk ∷ chunks) u = (mid : Claims) × Took t chunk mid × TookAll mid chunks u
+
+-- the objects of a chunk came into the hands, and were run
+pub record RunsChunk (v : View) (chunk : Chunk) (w : View) (scans : ℕ) : Type 0 where
+  pub holder : View
+  pub absorbed : Absorbed v (hands_of chunk) holder
+  pub runs : Runs holder chunk.objects.items w scans
 
 -- chunks were taken and run: each of their objects, and each that was shaded, has its scan; the counts are those of the chunks and
 -- of the scans, and the hands are as before

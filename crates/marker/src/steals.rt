@@ -4,11 +4,11 @@ ghost use Rattle.entry_base.specs.Openings.{sizes_in};
 ghost use Rattle.entry_base.specs.Sessions.{view, IsChunkOf, IsOf};
 ghost use Rattle.chunk_pool.specs.Claims.{IsWhole, TookEachOnce};
 ghost use Rattle.chunk_pool.specs.Thieves.{claims_of, IsThiefOf};
-ghost use Rattle.marker.specs.Steals.{StealsAll};
+ghost use Rattle.marker.specs.Steals.{RunsChunk, StealsAll};
 
 use crate::marker::Marker;
 use chunk_pool::{Pool, Thief};
-use entry_base::{Session, Shared};
+use entry_base::{Chunk, Session, Shared};
 
 /// How many chunks a marker took, up to 512, and how many objects it scanned.
 #[derive(Clone, Copy, Debug, PartialEq, Eq)]
@@ -38,10 +38,22 @@ impl Marker {
     {
         let mut dealt = Dealt { chunks: 0, scans: 0 };
         while let Some(chunk) = thief.next(pool) {
-            let objects = s.absorb(shared, chunk);
             dealt.chunks += 1;
-            dealt.scans += self.run(shared, s, objects.as_slice());
+            dealt.scans += self.run_chunk(shared, s, chunk);
         }
         dealt
+    }
+
+    /// Absorbs a chunk of the table, and scans its objects and all that it shades by them. The answer is the number of scans.
+    fn run_chunk(&mut self, shared: &Shared, s: &mut Session, chunk: Chunk) -> u32
+        requires caller { IsOf shared.now s.old }
+        requires chunk { IsChunkOf shared.now chunk }
+        requires room { (sizes_in (view s.old).opening).objects ≤ self.old }
+        ensures caller { IsOf shared.now s.new }
+        ensures runs { RunsChunk (view s.old) chunk (view s.new) result }
+        ensures room { self.new ≡ self.old }
+    {
+        let objects = s.absorb(shared, chunk);
+        self.run(shared, s, objects.as_slice())
     }
 }
