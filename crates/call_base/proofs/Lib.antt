@@ -4,4 +4,3 @@ pub mod HeldVariables
 pub mod ScanParts
 pub mod HistoriesStay
 pub mod PassedParts
-pub mod Absorptions

@@ -1,5 +1,5 @@
 -- Colours: headers after a change of one of them, and which objects are grey then.
-use Rattle.std.proofs.Common.{◌≡◌, ◌≢◌, ℕ, ◌<◌, ◌≤◌, ◌==◌, nat_lt, if◌then◌else◌, Bool, true, false, List, length, slice_index, slice_set, get_or-set_same, get_or-set_other, bit_or, refl, ap, arith}
+use Rattle.std.proofs.Common.{◌≡◌, ◌≢◌, ℕ, ◌<◌, ◌==◌, nat_lt, if◌then◌else◌, Bool, true, false, List, length, slice_index, slice_set, get_or-set_same, get_or-set_other, bit_or, refl, ap, arith}
 use Rattle.std.proofs.lemmas.Bool.Decides.{nat_tests}
 use Rattle.plain_table.specs.Table.{Sizes}
 use Rattle.plain_table.specs.Words.{header_place, header_word}
@@ -51,12 +51,3 @@ grey_low z shown place n no_header o = go (nat_lt o z.objects) refl
     go : (b : Bool) → nat_lt o z.objects ≡ b → one_at b (slice_index (slice_set shown place n) (header_place o)) ≡ one_at b (slice_index shown (header_place o))
     go true e = ap (one_at true) (get_or-set_other shown place (header_place o) n 0 (no_header o (grind (arith, nat_tests))))
     go false e = refl
-
--- an object is grey once or not at all
-pub grey-few : (z : Sizes) (shown : List ℕ) (o : ℕ) → grey z shown o ≤ 1
-grey-few z shown o = go (nat_lt o z.objects) (slice_index shown (header_place o) == 1)
-  where
-    go : (b c : Bool) → (if b then (if c then 1 else 0) else 0) ≤ 1
-    go true true = omega arith
-    go true false = omega arith
-    go false c = omega arith

@@ -93,7 +93,6 @@ module _ (v u x w : View) (opening : x.opening ≡ v.opening) (number : x.number
     opening = l.loaded.same.opening ∙ opening;
     number = l.loaded.same.number ∙ number;
     hands = l.loaded.hands ∙ hands;
-    once = λ o. subst (λ h. count_in o h ≤ 1) (sym l.loaded.hands) (l.hands_once o);
     knows = λ f has. l.loaded.same.knows f (subst (λ fs. Has fs f) (sym facts)
         (⊎_elim (λ (h : Has v.facts f). inr (has_left v.facts u.facts f h)) (λ (h : Has u.facts f). inr (has_append v.facts u.facts f h)) has));
     seen = p.0;

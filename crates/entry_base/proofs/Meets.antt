@@ -11,7 +11,6 @@ use Rattle.entry_base.specs.Facts.{IsKnown}
 use Rattle.entry_base.specs.Rule.{Ruled}
 use Rattle.entry_base.specs.Openings.{sizes_in}
 use Rattle.entry_base.specs.Learned.{meets}
-use Rattle.entry_base.proofs.Greys.{grey-few}
 use Rattle.entry_base.proofs.Sums.{among, each_has}
 use Rattle.entry_base.proofs.Steps.{given, allows, loads}
 use Rattle.plain_table.specs.History.{after}
@@ -39,11 +38,6 @@ learns key slots id me i opened = allows key slots id me i (λ n. n) (meets (ste
             | inl past ↦ let a = among (λ (x : View). count_in n x.numbers) views id me.0 at in let b = k.numbers.none n past in omega arith
             | inr low ↦ let a = among (λ (x : View). count_in n x.numbers) views id me.0 at in let b = k.numbers.one n low in omega arith
           ];
-          hands_once = λ o.
-              let a = among (λ (x : View). count_in o x.hands) views id me.0 at in
-              let b = k.hands o in
-              let c = grey-few (sizes_in key) k.shown o in
-              omega (arith, a, b, c);
         },
         refl,
       ),

@@ -1,20 +1,19 @@
 -- What a join and an absorption leave: both histories come first, and the events of each number are those that its
 -- session had seen, so the calls of an ended number are kept.
-use Rattle.std.specs.Prelude.{◌≡◌, ◌⊎◌, ℕ, ◌≤◌, ◌++◌}
+use Rattle.std.specs.Prelude.{◌≡◌, ◌⊎◌, ℕ, ◌++◌}
 use Rattle.plain_table.specs.Belongs.{events_by}
 use Rattle.entry_base.specs.declared.view.Fact.{Fact}
 use Rattle.entry_base.specs.declared.view.View.{View}
 use Rattle.entry_base.specs.Histories.{IsPhaseHistory}
-use Rattle.entry_base.specs.Lists.{StartsWith, Has, count_in}
+use Rattle.entry_base.specs.Lists.{StartsWith, Has}
 use Rattle.entry_base.specs.Numbers.{HasNumber}
 use Rattle.entry_base.specs.Views.{both}
 
--- the histories, facts and hands of two views, in one after them; each object stands in its hands at most once
+-- the histories, facts and hands of two views, in one after them
 pub record PutTogether (v u w : View) : Type 0 where
   pub opening : w.opening ≡ v.opening
   pub number : w.number ≡ v.number
   pub hands : w.hands ≡ v.hands ++ u.hands
-  pub once : (o : ℕ) → count_in o w.hands ≤ 1
   pub knows : (f : Fact) → Has v.facts f ⊎ Has u.facts f → Has w.facts f
   pub seen : StartsWith w.seen v.seen × StartsWith w.seen u.seen
   pub mine : (n : ℕ) → HasNumber v n → events_by n w.seen ≡ events_by n v.seen

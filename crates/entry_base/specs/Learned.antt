@@ -25,13 +25,11 @@ pub record Answered (v : View) (e : Event) (w : View) : Type 0 where
   pub hands : w.hands ≡ v.hands
   pub extends : Extends v e w
 
--- what the load after a join says: the histories that were put together, and that each number and each object of the hands is there
--- once
+-- what the load after a join tells: the histories that were put together, and that each number is there once
 pub record Met (v w : View) : Type 0 where
   pub loaded : Loaded v [] w
   pub joined : (short long : List Event) (numbers : List ℕ) → Has v.facts (fact.Joined short long numbers) → GoesOn short long numbers
   pub once : (n : ℕ) → count_in n v.numbers ≤ 1
-  pub hands_once : (o : ℕ) → count_in o v.hands ≤ 1
 
 abbrev pub meets : Step (Unit {0}) → Me (Unit {0}) View → ℕ → Me (Unit {0}) View → Type 0
 meets s m found n = Met m.0 n.0 × (n.1 ≡ m.1)

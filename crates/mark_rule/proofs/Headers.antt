@@ -12,7 +12,7 @@ use Rattle.entry_base.specs.Hands.{grey, HandsKept}
 use Rattle.entry_base.specs.Lists.{count_in}
 use Rattle.entry_base.specs.declared.view.View.{View}
 use Rattle.entry_base.proofs.Sums.{among, total_set}
-use Rattle.entry_base.proofs.Greys.{grey-few, grey_here, grey_there, header_here}
+use Rattle.entry_base.proofs.Greys.{grey_here, grey_there, header_here}
 
 -- in a cycle a header is black or not, and a black one is shaded
 pub record HeaderTells (shown : List ℕ) (s : Table) (o : ℕ) : Type 0 where
@@ -54,6 +54,14 @@ hands_changed z shown before after o n made room here there m = elim (eqb_tells 
 ]
 
 -- each object stands at most once in the hands of a view
+grey-few : (z : Sizes) (shown : List ℕ) (o : ℕ) → grey z shown o ≤ 1
+grey-few z shown o = go (nat_lt o z.objects) (slice_index shown (header_place o) == 1)
+  where
+    go : (b c : Bool) → (if b then (if c then 1 else 0) else 0) ≤ 1
+    go true true = omega arith
+    go true false = omega arith
+    go false c = omega arith
+
 pub hands_once : (z : Sizes) (shown : List ℕ) (views : List View) (id : ℕ) (v w : View) → get_elem? views id ≡ some v → HandsKept z shown (set views id w) → (o : ℕ) → count_in o w.hands ≤ 1
 hands_once z shown views id v w at kept o =
     let all = total_set (λ (x : View). count_in o x.hands) views id v w at in

@@ -13,7 +13,7 @@ use Rattle.entry_base.specs.Sessions.{hands_of}
 use Rattle.entry_base.proofs.OneByOne.{own_trans}
 use Rattle.entry_base.proofs.Sums.{count_append, each_append}
 use Rattle.call_base.specs.ScanParts.{ScanPart}
-use Rattle.call_base.proofs.Absorptions.{called_absorbed}
+use Rattle.marker.proofs.Absorptions.{called_absorbed}
 use Rattle.call_base.proofs.ScanParts.{part_none, part_still, part_trans}
 use Rattle.chunk_pool.specs.declared.claims.Claims.{Claims}
 use Rattle.chunk_pool.specs.Claims.{Took}

@@ -1,0 +1,108 @@
+// A cycle with an area and no room below it: an evacuation aborts the compaction.
+ghost use Rattle.std.specs.Prelude.{◌≡◌, ◌<◌, IfOk};
+ghost use Rattle.plain_table.specs.Shows.{IsLawful};
+ghost use Rattle.entry_word.specs.Image.{image_of};
+ghost use Rattle.sweeper.specs.Begin.{HasRoom};
+ghost use Rattle.entry_base.specs.Callers.{SameCaller};
+ghost use Rattle.entry_base.specs.Sessions.{view, IsOf};
+ghost use Rattle.mark_rule.specs.Marking.{InHands};
+
+use crate::asked::TWO;
+use crate::cycles::{begin_on, open_with_roots};
+use crate::entries::{bind, forge_word, make};
+use entry_base::{Session, Shared};
+use entry_word::Image;
+use mark_steps::{Evacuated, Mark, evacuate, mark, word_at};
+use plain_table::{OutOfMemory, Policy};
+use std::alloc::Global;
+use std::process::Abort;
+use sweeper::Area;
+use worked_tables::{close_both, close_three, open_fresh};
+
+/// An image in a cycle whose area begins at 4, with objects 0 and 1, whose four external fields name the cells at 1 to 4: no index
+/// below the area is free.
+fn image_without_room(rt: &impl Abort, alloc: Global) -> Result<(Image, Area), OutOfMemory>
+    ensures lawful { IfOk result (λ t. IsLawful (image_of t.0)) }
+    ensures shape { IfOk result (λ t. t.0.shape ≡ TWO) }
+    ensures room { IfOk result (λ t. HasRoom t.1 TWO.objects) }
+{
+    let (shared, mut first) = open_fresh(alloc, TWO)?;
+    let mut s = first.split(&shared, 0, &[]);
+    make(rt, &shared, &mut s, 0, 0);
+    make(rt, &shared, &mut s, 1, 1);
+    bind(rt, &shared, &mut s, 0, 0, 0xc1);
+    bind(rt, &shared, &mut s, 0, 1, 0xc2);
+    bind(rt, &shared, &mut s, 1, 0, 0xc3);
+    bind(rt, &shared, &mut s, 1, 1, 0xc4);
+    let image = close_both(shared, first, s);
+    begin_on(rt, alloc, image, TWO, Policy::Always)
+}
+
+/// Evacuates field 1 of object 1, whose cell at index 4 has to move, and field 0 of object 0, whose cell at index 1 has not.
+fn evacuate_both(rt: &impl Abort, shared: &Shared, s: &mut Session)
+    requires caller { IsOf shared.now s.old }
+    requires hands { InHands (view s.old) 0 × InHands (view s.old) 1 }
+    ensures caller { IsOf shared.now s.new }
+    ensures same { SameCaller (view s.old) (view s.new) }
+    ensures hands { (view s.new).hands ≡ (view s.old).hands }
+{
+    let word = word_at(shared, s, 1, 1);
+    assert_eq!(rt; word, 0x0004_0000);
+    let aborted = evacuate(shared, s, 1, 1, word);
+    assert_eq!(rt; aborted, Evacuated::Aborted);
+    let again = evacuate(shared, s, 1, 1, word);
+    assert_eq!(rt; again, Evacuated::Aborted);
+    let word = word_at(shared, s, 0, 0);
+    assert_eq!(rt; word, 0x0001_0000);
+    let stays = evacuate(shared, s, 0, 0, word);
+    assert_eq!(rt; stays, Evacuated::NotNeeded);
+}
+
+/// Marks the cell at index 4 twice.
+fn mark_twice(rt: &impl Abort, shared: &Shared, s: &mut Session)
+    requires caller { IsOf shared.now s.old }
+    requires hands { InHands (view s.old) 1 }
+    ensures caller { IsOf shared.now s.new }
+    ensures same { SameCaller (view s.old) (view s.new) }
+    ensures hands { (view s.new).hands ≡ (view s.old).hands }
+{
+    let word = word_at(shared, s, 1, 1);
+    assert_eq!(rt; word, 0x0004_0000);
+    let set = mark(shared, s, 1, 1, word);
+    assert_eq!(rt; set, Mark::Set);
+    let already = mark(shared, s, 1, 1, word);
+    assert_eq!(rt; already, Mark::Already);
+}
+
+/// Marks by a forged word at whose index no cell stands.
+fn mark_forged(rt: &impl Abort, shared: &Shared, s: &mut Session)
+    requires caller { IsOf shared.now s.old }
+    requires hands { InHands (view s.old) 0 }
+    ensures caller { IsOf shared.now s.new }
+    ensures same { SameCaller (view s.old) (view s.new) }
+{
+    let word = word_at(shared, s, 0, 0);
+    assert_eq!(rt; word, 0x0005_0000);
+    let none = mark(shared, s, 0, 0, word);
+    assert_eq!(rt; none, Mark::NoCell);
+}
+
+#[test]
+fn an_evacuation_with_no_index_below_the_area_aborts_the_compaction(
+    rt: HostRuntime,
+) -> Result<(), OutOfMemory> {
+    let (image, area) = image_without_room(&rt, rt.alloc())?;
+    assert_eq!(rt; area.start(), Some(4));
+    let (shared, mut first, roots) = open_with_roots(rt.alloc(), image)?;
+    assert!(rt; roots.as_slice() == [0, 1].as_slice());
+    let mut marker = first.split(&shared, 8, roots.as_slice());
+    let mut mutator = first.split(&shared, 0, &[]);
+    evacuate_both(&rt, &shared, &mut marker);
+    mark_twice(&rt, &shared, &mut marker);
+    forge_word(&rt, &shared, &mut mutator, 0, 0, 0x0005_0000);
+    mark_forged(&rt, &shared, &mut marker);
+    let image = close_three(shared, first, marker, mutator);
+    assert_eq!(rt; crate::asked::word_at(&rt, &image, 52), 0x400f_0000_0000_00c4);
+    assert_eq!(rt; crate::asked::word_at(&rt, &image, 49), 0x000f_0000_0000_00c1);
+    Ok(())
+}
