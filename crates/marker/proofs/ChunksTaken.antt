@@ -1,5 +1,6 @@
 -- Chunks that are taken and run, one after another: what is so at the start and after each one.
 use Rattle.std.proofs.Common.{◌≡◌, ℕ, ◌+◌, ◌≤◌, List, [], ◌∷◌, ◌++◌, length, refl, sym, ap, subst, ◌∙◌, arith}
+use Rattle.std.proofs.lemmas.List.{length-append}
 use Rattle.plain_table.specs.Scans.{Rest}
 use Rattle.entry_base.specs.declared.chunks.Chunk.{Chunk}
 use Rattle.entry_base.specs.declared.view.View.{View}
@@ -39,10 +40,6 @@ length_push : (chunks : List Chunk) (chunk : Chunk) → length (chunks ++ chunk 
 length_push [] chunk = refl
 length_push (first ∷ chunks) chunk = let r = length_push chunks chunk in omega arith
 
-length_both : (xs ys : List ℕ) → length (xs ++ ys) ≡ length xs + length ys
-length_both [] ys = omega arith
-length_both (x ∷ xs) ys = let r = length_both xs ys in omega arith
-
 pub steals_begin : (v : View) (t : Claims) → Steals v t v t (record { chunks = 0; scans = 0 })
 steals_begin v t = record {
   taken = [];
@@ -67,9 +64,6 @@ module _ (w : View) (chunk : Chunk) (x : View) (a : Absorbed w (hands_of chunk) 
   pub objects_in : AreIn chunk.objects.items x.hands
   objects_in q = let c = hands_came q in omega (arith, c)
 
-  pub objects_once : (q : ℕ) → count_in q chunk.objects.items ≤ 1
-  objects_once q = let c = hands_came q in let o = a.together.once q in omega (arith, c, o)
-
 -- and is run, after others
 module _ (v : View) (t : Claims) (w : View) (m : Claims) (dealt : Dealt) (so_far : Steals v t w m dealt) (chunk : Chunk) (y : View) (scans : ℕ) (ran : RunsChunk w chunk y scans)
     (own : HasNumber w w.number) (openable : ∥ IsOpenable v.opening ∥₁) (lawful : IsPhaseHistory v.opening y.seen) where
@@ -91,7 +85,7 @@ module _ (v : View) (t : Claims) (w : View) (m : Claims) (dealt : Dealt) (so_far
   once = scans_once v y Rest Rest (so_far.done ++ ran.runs.done) openable lawful part
 
   number : length (so_far.done ++ ran.runs.done) ≡ dealt.scans + scans
-  number = let b = length_both so_far.done ran.runs.done in let c = so_far.scans in let d = ran.runs.number in omega (arith, b, c, d)
+  number = let b = length-append so_far.done ran.runs.done in let c = so_far.scans in let d = ran.runs.number in omega (arith, b, c, d)
 
   pub steals_turn : (u : Claims) → Took m chunk u → Steals v t y u (record { chunks = dealt.chunks + 1; scans = dealt.scans + scans })
   steals_turn u took = record {

@@ -54,6 +54,10 @@ impl Marker {
         ensures room { self.new ≡ self.old }
     {
         let objects = s.absorb(shared, chunk);
-        self.run(shared, s, objects.as_slice())
+        let mut scans = 0;
+        for object in &objects {
+            scans += self.run(shared, s, &[*object]);
+        }
+        scans
     }
 }
