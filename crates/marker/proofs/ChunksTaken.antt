@@ -1,5 +1,5 @@
 -- Chunks that are taken and run, one after another: what is so at the start and after each one.
-use Rattle.std.proofs.Common.{◌≡◌, ℕ, ◌+◌, ◌≤◌, List, [], ◌∷◌, ◌++◌, length, refl, sym, ap, subst, ◌∙◌, arith}
+use Rattle.std.proofs.Common.{◌≡◌, ℕ, ◌+◌, ◌≤◌, List, [], ◌∷◌, ◌++◌, length, refl, ap, subst, ◌∙◌, arith}
 use Rattle.std.proofs.lemmas.List.{length-append}
 use Rattle.plain_table.specs.Scans.{Rest}
 use Rattle.entry_base.specs.declared.chunks.Chunk.{Chunk}
@@ -19,7 +19,6 @@ use Rattle.call_base.proofs.ScanParts.{part_none, part_still, part_trans}
 use Rattle.chunk_pool.specs.declared.claims.Claims.{Claims}
 use Rattle.chunk_pool.specs.Claims.{Took}
 use Rattle.marker.specs.declared.steals.Dealt.{Dealt}
-use Rattle.marker.specs.Runs.{Runs}
 use Rattle.marker.specs.Steals.{RunsChunk, Steals, TookAll, objects_of}
 use Rattle.marker.proofs.Counts.{length_few}
 use Rattle.marker.proofs.ScansOnce.{scans_once}

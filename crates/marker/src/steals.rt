@@ -21,7 +21,13 @@ impl Marker {
     /// Takes chunks of the table out of the pool, absorbs each and scans its objects and all that it shades by them, until its thief
     /// has seen the end (`StealsAll` of `specs/Steals.antt`); the marker has room for all objects of the table. The answer counts the
     /// chunks and the scans. A thief that had seen the end makes no claim. It takes no memory.
-    pub fn steal_run(&mut self, shared: &Shared, s: &mut Session, pool: &Pool, thief: &mut Thief) -> Dealt
+    pub fn steal_run(
+        &mut self,
+        shared: &Shared,
+        s: &mut Session,
+        pool: &Pool,
+        thief: &mut Thief,
+    ) -> Dealt
         requires caller { IsOf shared.now s.old }
         requires thief { IsThiefOf pool.now thief.old }
         requires chunks { All (IsChunkOf shared.now) (claims_of thief.old).given }
@@ -36,7 +42,10 @@ impl Marker {
         ensures whole { IsWhole (claims_of thief.new) → TookEachOnce (claims_of thief.new) }
         ensures room { self.new ≡ self.old }
     {
-        let mut dealt = Dealt { chunks: 0, scans: 0 };
+        let mut dealt = Dealt {
+            chunks: 0,
+            scans: 0,
+        };
         while let Some(chunk) = thief.next(pool) {
             dealt.chunks += 1;
             dealt.scans += self.run_chunk(shared, s, chunk);

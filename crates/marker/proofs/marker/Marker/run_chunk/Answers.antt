@@ -1,4 +1,4 @@
-use Rattle.std.proofs.Common.{◌≡◌, ◌+◌, ◌≤◌, ◌∙◌, length, take, refl, sym, ap, subst, arith}
+use Rattle.std.proofs.Common.{◌≡◌, ◌+◌, ◌∙◌, take, refl, sym, ap, subst, arith}
 use Rattle.std.proofs.lemmas.List.{take_all}
 use Rattle.entry_base.specs.Lists.{AreIn}
 use Rattle.entry_base.specs.Openings.{sizes_in}
@@ -47,7 +47,7 @@ loop-object-preserved c = record { caller = c.run-scans.ensures.caller; runs = n
 pub returns-clause-runs : goal.returns-clause-runs
 returns-clause-runs c =
     let whole : take c.loop-object.object-index c.deref-object-items.result.now ≡ c.deref-object-items.result.now =
-        (let past = c.loop-object-test.false in take_all c.loop-object.object-index c.deref-object-items.result.now (omega (arith, past))) in record {
+    (let past = c.loop-object-test.false in take_all c.loop-object.object-index c.deref-object-items.result.now (omega (arith, past))) in record {
       holder = view c.absorb-objects.new.self;
       absorbed = c.absorb-objects.ensures.absorbed;
       runs = subst (λ objects. Runs (view c.absorb-objects.new.self) objects (view c.loop-object.s) c.loop-object.scans) (whole ∙ (c.deref-object-items.ensures.value ∙ c.absorb-objects.ensures.objects))

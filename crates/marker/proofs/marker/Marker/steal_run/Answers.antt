@@ -1,4 +1,4 @@
-use Rattle.std.proofs.Common.{◌≡◌, ◌≤◌, ◌+◌, ◌∙◌, All, refl, sym, ap, subst, arith}
+use Rattle.std.proofs.Common.{◌∙◌, All, refl, sym, ap, subst, arith}
 use Rattle.entry_base.specs.Openings.{sizes_in}
 use Rattle.entry_base.specs.Sessions.{view, IsChunkOf}
 use Rattle.mark_steps.proofs.SeenWords.{openable_of, opened_lawful}
@@ -27,8 +27,8 @@ run_chunk-requires-clause-chunk c =
 pub overflow_add-dealt-in-Some : goal.overflow_add-dealt-in-Some
 overflow_add-dealt-in-Some c =
     let some = few_dealt (view c.args.s.now) (claims_of c.args.thief.now) (view c.loop-chunk.s) (claims_of c.loop-chunk.thief) c.loop-chunk.dealt c.loop-chunk.invariant.steals
-        c.in-Some.chunk (view c.run_chunk.new.s) c.run_chunk.result c.run_chunk.ensures.runs c.loop-chunk.invariant.caller.1.own
-        (openable_of _ _ c.args.shared.now.openable c.requires.caller.1) (opened_lawful _ _ _ c.requires.caller.1 c.run_chunk.ensures.caller.1) in
+    c.in-Some.chunk (view c.run_chunk.new.s) c.run_chunk.result c.run_chunk.ensures.runs c.loop-chunk.invariant.caller.1.own
+    (openable_of _ _ c.args.shared.now.openable c.requires.caller.1) (opened_lawful _ _ _ c.requires.caller.1 c.run_chunk.ensures.caller.1) in
     let same = ap (λ k. (sizes_in k).objects) c.requires.caller.1.opened in
     let made = c.args.shared.now.made in
     let limit = c.args.shared.now.few in
