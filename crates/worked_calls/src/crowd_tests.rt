@@ -235,8 +235,14 @@ fn all_work<R: Threads + Sync + Abort>(
 {
     join(
         rt,
-        || both_work(rt, shared, low, 0),
-        || both_work(rt, shared, high, 2),
+        ||
+            requires callers { IsOf shared.now low.0 × IsOf shared.now low.1 }
+            requires mutators { ((view low.0).number < 8) × ((view low.1).number < 8) }
+        { both_work(rt, shared, low, 0) },
+        ||
+            requires callers { IsOf shared.now high.0 × IsOf shared.now high.1 }
+            requires mutators { ((view high.0).number < 8) × ((view high.1).number < 8) }
+        { both_work(rt, shared, high, 2) },
     )
 }
 

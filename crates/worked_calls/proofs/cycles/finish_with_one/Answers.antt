@@ -1,4 +1,4 @@
-use Rattle.std.proofs.Common.{◌≡◌, ◌<◌, ◌×◌, ◌/◌, ◌%◌, ℕ, List, [], ◌∷◌, length, slice_index, sym, ap, subst, ◌∙◌, arith}
+use Rattle.std.proofs.Common.{◌≡◌, ◌<◌, ◌/◌, ◌%◌, ℕ, List, [], ◌∷◌, slice_index, slice_index_or, sym, ap, subst, ◌∙◌, arith}
 use Rattle.std.specs.List.{Contains}
 use Rattle.plain_table.specs.Shows.{IsShaded, IsScanned}
 use Rattle.sweeper.specs.Late.{AreOwed}
@@ -9,7 +9,7 @@ the_one : (o : ℕ) → Contains (0 ∷ []) o → o ≡ 0
 the_one o there =
     let low : there.0 < 1 = there.1 in
     let first : there.0 ≡ 0 = omega (arith, low) in
-    sym there.2 ∙ ap (slice_index (0 ∷ [])) first
+    sym there.2 ∙ ap (λ (i : ℕ). slice_index_or (0 ∷ []) i o) first
 
 owed_one : (words : List ℕ) → slice_index words 3 ≡ 1 → slice_index words 32 ≡ 1 → AreOwed words (0 ∷ [])
 owed_one words count header = record {
