@@ -115,7 +115,9 @@ fn mark_to_share(rt: &impl Abort, shared: &Shared, s: &mut Session)
 {
     assert_eq!(rt; s.held(0), Some(0));
     let word = name_trusted(shared, s, 0) as u32;
-    assert!(rt; word != 0);
+    if word == 0 {
+        panic!(rt; "the field names no cell");
+    }
     share_mark(shared, s, 0, word);
 }
 

@@ -1,5 +1,5 @@
 // Cycles: their start, the opening of a table with its roots, and their late marking and sweep.
-ghost use Rattle.std.specs.Prelude.{◌≡◌, ◌≤◌, ℕ, [], IfOk, slice_index};
+ghost use Rattle.std.specs.Prelude.{◌≡◌, ◌≤◌, ◌<◌, ◌+◌, ◌*◌, ℕ, IfOk, slice_index};
 ghost use Rattle.plain_table.specs.Shows.{IsLawful};
 ghost use Rattle.word_laws.specs.Small.{AreSmall};
 ghost use Rattle.entry_word.specs.Image.{IsValidShape, image_of, sizes_of};
@@ -116,6 +116,16 @@ fn assert_left(rt: &impl Abort, image: &Image, left: Option<u32>)
     }
 }
 
+/// Asserts that an object is made and shaded, and not scanned.
+fn assert_shaded(rt: &impl Abort, image: &Image, object: u32)
+    ensures made { object < slice_index image.now.words.items 3 }
+    ensures header { slice_index image.now.words.items (32 + 8 * object) ≡ 1 }
+{
+    assert!(rt; u64::from(object) < word_at(rt, image, 3));
+    let header = word_at(rt, image, 32 + 8 * object as usize);
+    assert_eq!(rt; header, 1);
+}
+
 /// Finishes a cycle after a phase, on an image of known sizes in which each shaded object is scanned.
 pub(crate) fn finish_settled(
     rt: &impl Abort,
@@ -152,8 +162,6 @@ pub(crate) fn finish_with_one(
     assert_shape(rt, image, shape);
     assert_eq!(rt; word_at(rt, image, 4), 1);
     assert_left(rt, image, Some(left));
-    assert!(rt; u64::from(left) < word_at(rt, image, 3));
-    let header = word_at(rt, image, 32 + 8 * left as usize);
-    assert_eq!(rt; header, 1);
+    assert_shaded(rt, image, left);
     finish(image, area, &[left])
 }
