@@ -1,5 +1,5 @@
 // Many objects: a chain of holders, each with an object of its own, and these in eight chunks.
-ghost use Rattle.std.specs.Prelude.{◌≡◌, ◌<◌, ◌≤◌, All, IfOk, length};
+ghost use Rattle.std.specs.Prelude.{◌≡◌, ◌<◌, ◌∷◌, All, IfOk, length};
 ghost use Rattle.plain_table.specs.Shows.{IsLawful};
 ghost use Rattle.entry_word.specs.Image.{image_of};
 ghost use Rattle.entry_base.specs.Callers.{SameCaller};
