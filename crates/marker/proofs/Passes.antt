@@ -1,4 +1,4 @@
--- Passing fields and references: parts of the scan, and the stack beside the hands.
+-- Passing fields and references: parts of the scan, and the stack and the hands.
 use Rattle.std.proofs.Common.{◌≡◌, ℕ, ◌+◌, ◌*◌, ◌<◌, ◌≤◌, if◌then◌else◌, Bool, true, false, IsTrue, List, [], ◌∷◌, length, ap, subst, arith}
 use Rattle.plain_table.specs.declared.events.Field.{Field}
 use Rattle.plain_table.specs.declared.events.Field.TheVariants as field

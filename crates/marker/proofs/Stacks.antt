@@ -66,6 +66,7 @@ scanning_end v w from stack scans openable lawful empty so_far = record {
   part = so_far.part;
   number = so_far.number;
   all = λ q. let a = so_far.all q in let b = ap (count_in q) empty in omega (arith, a, b);
+  low = so_far.low;
   once = scans_once v w Rest Rest so_far.done openable lawful so_far.part;
   own = so_far.own;
   hands = λ q. let a = so_far.hands q in let b = ap (count_in q) empty in omega (arith, a, b);

@@ -33,6 +33,7 @@ pub record Runs (v : View) (from : List ℕ) (w : View) (scans : ℕ) : Type 0 w
   pub part : ScanPart v Rest w Rest done
   pub number : length done ≡ scans
   pub all : (q : ℕ) → count_in q done ≡ count_in q from + count_in q shaded
+  pub low : AreWithin v.opening done
   pub once : (q : ℕ) → count_in q done ≤ 1
   pub own : SameOwn v w
   pub hands : (q : ℕ) → count_in q w.hands + count_in q from ≡ count_in q v.hands

@@ -5,6 +5,7 @@ ghost use Rattle.plain_table.specs.Shows.{IsLawful};
 ghost use Rattle.sweeper.specs.Begin.{HasRoom};
 ghost use Rattle.sweeper.specs.Late.{AreOwed};
 
+use crate::asked::word_at;
 use entry_word::{Image, Shape};
 use plain_table::{OutOfMemory, Policy, SweepReport};
 use std::alloc::Global;
@@ -77,6 +78,17 @@ pub(crate) fn cycle_over(
     Ok((image, report))
 }
 
+/// Asserts that an image is in a cycle and has one object, which is shaded and not scanned.
+fn assert_one_owed(rt: &impl Abort, image: &Image)
+    ensures cycle { slice_index image.now.words.items 4 ≡ 1 }
+    ensures count { slice_index image.now.words.items 3 ≡ 1 }
+    ensures header { slice_index image.now.words.items 32 ≡ 1 }
+{
+    assert_eq!(rt; word_at(rt, image, 4), 1);
+    assert_eq!(rt; word_at(rt, image, 3), 1);
+    assert_eq!(rt; word_at(rt, image, 32), 1);
+}
+
 /// Finishes a cycle after a phase, on an image of known sizes, whose one object is shaded and not scanned.
 pub(crate) fn finish_with_one(
     rt: &impl Abort,
@@ -91,9 +103,6 @@ pub(crate) fn finish_with_one(
     ensures shape { image.new.shape ≡ shape }
 {
     assert_shape(rt, image, shape);
-    assert!(rt; image.words.len() > 32);
-    assert!(rt; image.words[4] == 1);
-    assert!(rt; image.words[3] == 1);
-    assert!(rt; image.words[32] == 1);
+    assert_one_owed(rt, image);
     finish(image, area, &[0])
 }

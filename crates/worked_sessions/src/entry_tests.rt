@@ -13,9 +13,6 @@ ghost use Rattle.entry_base.specs.Owns.{claim_of};
 ghost use Rattle.entry_base.specs.Sessions.{view, IsOf};
 ghost use Rattle.entry_base.specs.Views.{numbers_below};
 
-use crate::closings::{close_both, close_whole, word_at};
-use crate::fillings::{take_head, take_two};
-use crate::openings::{SHAPE, open_fresh};
 use entry_base::{Session, Shared};
 use entry_rule::{exchange_step, look_step, put_external, put_trusted, store_step};
 use freelist_rule::{Steps, load_freelist, load_freelist_for_take, load_link, take_step};
@@ -24,6 +21,7 @@ use std::alloc::Global;
 use std::marker::Brand;
 use std::process::Abort;
 use std::sync::ledger::{Blank, Ledger};
+use worked_tables::{SHAPE, close_both, close_whole, open_fresh, take_head, take_two, word_at};
 
 /// Looks at the external cell at index 1 under its tag, which answers its value.
 fn look_under_tag(rt: &impl Abort, shared: &Shared, s: &mut Session)
@@ -68,8 +66,7 @@ fn put_and_store<L: Ledger>(rt: &impl Abort, alloc: Global, blank: Blank) -> Res
     let None = session.area() else {
         panic!(rt; "a fresh image has an area");
     };
-    let index = take_head(
-        rt,
+    let taken = take_head(
         &shared,
         &mut session,
         Space::External,
@@ -77,18 +74,18 @@ fn put_and_store<L: Ledger>(rt: &impl Abort, alloc: Global, blank: Blank) -> Res
         2,
         &mut steps,
     );
-    put_external(&shared, &mut session, index, 0x0f, 0xc0);
+    assert_eq!(rt; taken, Some(1));
+    put_external(&shared, &mut session, 1, 0x0f, 0xc0);
     look_under_tag(rt, &shared, &mut session);
     look_under_others(rt, &shared, &mut session);
     store_step(&shared, &mut session, 0x1_0000, 0x0f, 0x0f, 0x0f, 0xd0);
     let stored = exchange_step(&shared, &mut session, 0x1_0000, 0x0f, 0x0f, 0x0f, 0xe0);
     let exchanged = look_step(&shared, &mut session, Space::External, 0x1_0000, 0x0f, 0x0f);
     let image = close_whole(shared, session);
-    assert_eq!(rt; index, 1);
     assert_eq!(rt; stored, 0x400f_0000_0000_00d0);
     assert_eq!(rt; exchanged, 0x400f_0000_0000_00e0);
-    assert_eq!(rt; word_at(rt, &image, 0), 0x2_0000_0002);
-    assert_eq!(rt; word_at(rt, &image, 65), 0x400f_0000_0000_00e0);
+    assert_eq!(rt; word_at(&image, 0), Some(0x2_0000_0002));
+    assert_eq!(rt; word_at(&image, 65), Some(0x400f_0000_0000_00e0));
     Ok(())
 }
 
@@ -109,8 +106,8 @@ fn take_with_stale_word<L: Ledger>(
     assert_eq!(rt; stale, 0x3_0000_0001);
     let link = load_link(shared, other, Space::External, stale);
     assert_eq!(rt; link, (1 << 56) + 2);
-    let index = take_head(rt, shared, first, Space::External, 0x3_0000_0001, 2, steps);
-    assert_eq!(rt; index, 1);
+    let taken = take_head(shared, first, Space::External, 0x3_0000_0001, 2, steps);
+    assert_eq!(rt; taken, Some(1));
     let missed = take_step(shared, other, Space::External, stale, 2, steps);
     assert_eq!(rt; missed, Err(0x2_0000_0002));
 }
@@ -129,7 +126,7 @@ fn split_and_miss<L: Ledger>(
     let mut steps = Steps::<L>::start(blank);
     take_with_stale_word(rt, &shared, &mut first, &mut other, &mut steps);
     let image = close_both(shared, first, other);
-    assert_eq!(rt; word_at(rt, &image, 0), 0x2_0000_0002);
+    assert_eq!(rt; word_at(&image, 0), Some(0x2_0000_0002));
     Ok(())
 }
 
@@ -146,8 +143,9 @@ fn put_trusted_and_look<L: Ledger>(
     ensures same { SameCaller (view s.old) (view s.new) }
     ensures ticked { steps.new ≡ steps.old + 1 }
 {
-    let index = take_head(rt, shared, s, Space::Trusted, 0x3_0000_0001, 2, steps);
-    put_trusted(shared, s, index, 0x0f, 0xc0);
+    let taken = take_head(shared, s, Space::Trusted, 0x3_0000_0001, 2, steps);
+    assert_eq!(rt; taken, Some(1));
+    put_trusted(shared, s, 1, 0x0f, 0xc0);
     look_at_hidden(rt, shared, s);
 }
 
@@ -159,12 +157,13 @@ fn fill_trusted<L: Ledger>(rt: &impl Abort, alloc: Global, blank: Blank) -> Resu
     let (shared, mut session) = open_fresh(alloc, SHAPE)?;
     let mut steps = Steps::<L>::start(blank);
     put_trusted_and_look(rt, &shared, &mut session, &mut steps);
-    take_two(rt, &shared, &mut session, Space::Trusted, &mut steps);
+    let last = take_two(&shared, &mut session, Space::Trusted, &mut steps);
+    assert_eq!(rt; last, Some(3));
     let spent = load_freelist_for_take(&shared, &mut session, Space::Trusted);
     let image = close_whole(shared, session);
     assert_eq!(rt; spent, 4);
-    assert_eq!(rt; word_at(rt, &image, 2), 4);
-    assert_eq!(rt; word_at(rt, &image, 73), 0x480f_0000_0000_00c0);
+    assert_eq!(rt; word_at(&image, 2), Some(4));
+    assert_eq!(rt; word_at(&image, 73), Some(0x480f_0000_0000_00c0));
     Ok(())
 }
 

@@ -7,9 +7,6 @@ ghost use Rattle.entry_base.specs.Openings.{phase_of, sizes_in, start_of};
 ghost use Rattle.entry_base.specs.Owns.{IsHeld};
 ghost use Rattle.entry_base.specs.Sessions.{view, IsOf};
 
-use crate::closings::{assert_change, close_both};
-use crate::fillings::{make_next, put_next};
-use crate::openings::{SHAPE, open_fresh};
 use entry_base::{Session, Shared};
 use entry_word::Image;
 use freelist_rule::Steps;
@@ -22,6 +19,7 @@ use std::alloc::Global;
 use std::marker::Brand;
 use std::process::Abort;
 use std::sync::ledger::{Blank, Ledger};
+use worked_tables::{SHAPE, change_at, close_both, make_next, open_fresh, put_next};
 
 /// Puts the next external cell, and tries to bind it to external field 0 of object 0, which variable 0 holds. The answer is the word
 /// that was found.
@@ -42,7 +40,9 @@ fn bind_next<L: Ledger>(
     ensures same { SameCaller (view s.old) (view s.new) }
     ensures ticked { steps.new ≡ steps.old + 1 }
 {
-    let index = put_next(rt, shared, s, word, next, value, steps);
+    let Some(index) = put_next(shared, s, word, next, value, steps) else {
+        panic!(rt; "the freelist word is not the one that was expected");
+    };
     assert_eq!(rt; s.held(0), Some(0));
     bind_external(shared, s, 0, 65536 * index)
 }
@@ -88,25 +88,17 @@ fn bind_twice<L: Ledger>(rt: &impl Abort, alloc: Global, blank: Blank) -> Result
     let mut one = first.split(&shared, 0, &[]);
     assert_eq!(rt; one.area(), None);
     let mut steps = Steps::<L>::start(blank);
-    make_next(rt, &shared, &mut one, 0, 0);
+    assert!(rt; make_next(&shared, &mut one, 0, 0));
     bind_both(rt, &shared, &mut one, &mut steps);
     let after = close_both(shared, first, one);
-    assert_change(rt, &before, &after, 37, 0, 0x1_0000);
-    assert_change(
-        rt,
-        &before,
-        &after,
-        65,
-        (1 << 56) + 2,
-        0x400f_0000_0000_00c0,
+    assert_eq!(rt; change_at(&before, &after, 37), Some((0, 0x1_0000)));
+    assert_eq!(rt;
+        change_at(&before, &after, 65),
+        Some(((1 << 56) + 2, 0x400f_0000_0000_00c0))
     );
-    assert_change(
-        rt,
-        &before,
-        &after,
-        66,
-        (1 << 56) + 3,
-        0x400f_0000_0000_00d0,
+    assert_eq!(rt;
+        change_at(&before, &after, 66),
+        Some(((1 << 56) + 3, 0x400f_0000_0000_00d0))
     );
     Ok(())
 }
@@ -136,11 +128,11 @@ fn any_word_is_forged_into_an_external_field(rt: HostRuntime) -> Result<(), OutO
     let before = Image::fresh(rt.alloc(), SHAPE)?;
     let (shared, mut first) = open_fresh(rt.alloc(), SHAPE)?;
     let mut one = first.split(&shared, 0, &[]);
-    make_next(&rt, &shared, &mut one, 0, 0);
+    assert!(rt; make_next(&shared, &mut one, 0, 0));
     forge_second(&rt, &shared, &mut one);
     let after = close_both(shared, first, one);
-    assert_change(&rt, &before, &after, 38, 0, 0xffff_0007);
-    assert_change(&rt, &before, &after, 37, 0, 0);
+    assert_eq!(rt; change_at(&before, &after, 38), Some((0, 0xffff_0007)));
+    assert_eq!(rt; change_at(&before, &after, 37), Some((0, 0)));
     Ok(())
 }
 
@@ -176,7 +168,7 @@ fn a_global_that_holds_nothing_is_got_linked_and_emptied(
     let before = Image::fresh(rt.alloc(), SHAPE)?;
     let (shared, mut first) = open_fresh(rt.alloc(), SHAPE)?;
     let mut one = first.split(&shared, 0, &[]);
-    make_next(&rt, &shared, &mut one, 0, 0);
+    assert!(rt; make_next(&shared, &mut one, 0, 0));
     assert_eq!(rt; global_word(&shared, &mut one, 1, 3), 0);
     assert_eq!(rt; one.held(1), None);
     link_globals(&rt, &shared, &mut one);
@@ -185,8 +177,8 @@ fn a_global_that_holds_nothing_is_got_linked_and_emptied(
     assert_eq!(rt; one.held(1), Some(0));
     assert_eq!(rt; one.held(2), None);
     let after = close_both(shared, first, one);
-    assert_change(&rt, &before, &after, 19, 0, 1);
-    assert_change(&rt, &before, &after, 20, 0, 0);
+    assert_eq!(rt; change_at(&before, &after, 19), Some((0, 1)));
+    assert_eq!(rt; change_at(&before, &after, 20), Some((0, 0)));
     Ok(())
 }
 
@@ -216,10 +208,10 @@ fn a_reference_that_holds_nothing_is_got_linked_and_emptied(
     let (shared, mut first) = open_fresh(rt.alloc(), SHAPE)?;
     let mut one = first.split(&shared, 0, &[]);
     assert_eq!(rt; one.in_cycle(), false);
-    make_next(&rt, &shared, &mut one, 0, 0);
+    assert!(rt; make_next(&shared, &mut one, 0, 0));
     link_references(&rt, &shared, &mut one);
     let after = close_both(shared, first, one);
-    assert_change(&rt, &before, &after, 35, 0, 1);
-    assert_change(&rt, &before, &after, 36, 0, 0);
+    assert_eq!(rt; change_at(&before, &after, 35), Some((0, 1)));
+    assert_eq!(rt; change_at(&before, &after, 36), Some((0, 0)));
     Ok(())
 }

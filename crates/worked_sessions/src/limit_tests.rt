@@ -12,9 +12,6 @@ ghost use Rattle.entry_base.specs.Openings.{phase_of, sizes_in, start_of};
 ghost use Rattle.entry_base.specs.Owns.{IsHeld};
 ghost use Rattle.entry_base.specs.Sessions.{view, IsOf};
 
-use crate::closings::{close_both, close_whole};
-use crate::fillings::{make_next, take_head, take_two};
-use crate::openings::{SHAPE, open_fresh};
 use entry_base::{Session, Shared};
 use entry_rule::{look_beyond, look_step};
 use entry_word::{Image, Shape};
@@ -25,6 +22,7 @@ use std::alloc::Global;
 use std::marker::Brand;
 use std::process::Abort;
 use std::sync::ledger::{Blank, Ledger};
+use worked_tables::{SHAPE, close_both, close_whole, make_next, open_fresh, take_head, take_two};
 
 /// Looks at the first index past the limit of each space, and at the last word: three faults.
 fn look_past(shared: &Shared, s: &mut Session)
@@ -83,7 +81,6 @@ fn spend_trusted<L: Ledger>(rt: &impl Abort, alloc: Global, blank: Blank) -> Res
     let mut steps = Steps::<L>::start(blank);
     let free = load_freelist_for_take(&shared, &mut session, Space::Trusted);
     let first = take_head(
-        rt,
         &shared,
         &mut session,
         Space::Trusted,
@@ -91,12 +88,13 @@ fn spend_trusted<L: Ledger>(rt: &impl Abort, alloc: Global, blank: Blank) -> Res
         2,
         &mut steps,
     );
-    take_two(rt, &shared, &mut session, Space::Trusted, &mut steps);
+    assert_eq!(rt; first, Some(1));
+    let last = take_two(&shared, &mut session, Space::Trusted, &mut steps);
+    assert_eq!(rt; last, Some(3));
     find_full(rt, &shared, &mut session);
     let left = load_freelist_for_take(&shared, &mut session, Space::External);
     let after = close_whole(shared, session);
     assert_eq!(rt; free, 0x3_0000_0001);
-    assert_eq!(rt; first, 1);
     assert_eq!(rt; left, 0x3_0000_0001);
     assert_eq!(rt; after.words.as_slice()[2], 4);
     Ok(())
@@ -133,7 +131,7 @@ fn a_second_object_finds_the_heap_full(rt: HostRuntime) -> Result<(), OutOfMemor
     let before = Image::fresh(rt.alloc(), ONE)?;
     let (shared, mut first) = open_fresh(rt.alloc(), ONE)?;
     let mut one = first.split(&shared, 0, &[]);
-    make_next(&rt, &shared, &mut one, 0, 0);
+    assert!(rt; make_next(&shared, &mut one, 0, 0));
     find_heap_full(&rt, &shared, &mut one);
     assert_eq!(rt; one.held(1), None);
     let after = close_both(shared, first, one);

@@ -2,14 +2,13 @@
 ghost use Rattle.std.specs.Prelude.{◌≡◌};
 ghost use Rattle.entry_base.specs.Sessions.{view, IsOf};
 
-use crate::closings::{close_both, close_whole};
-use crate::openings::{SHAPE, open_fresh};
 use entry_base::{Session, Shared};
 use entry_word::Image;
 use object_rule::load_count;
 use plain_table::OutOfMemory;
 use std::alloc::Global;
 use std::thread::{Threads, join};
+use worked_tables::{SHAPE, close_both, close_whole, open_fresh};
 
 #[test]
 fn a_phase_without_a_step_leaves_the_image_as_it_was(rt: HostRuntime) -> Result<(), OutOfMemory> {

@@ -7,9 +7,6 @@ ghost use Rattle.entry_base.specs.Openings.{phase_of, sizes_in, start_of};
 ghost use Rattle.entry_base.specs.Owns.{IsHeld};
 ghost use Rattle.entry_base.specs.Sessions.{view, IsOf};
 
-use crate::closings::{assert_change, close_both};
-use crate::fillings::{make_next, put_hidden};
-use crate::openings::{SHAPE, open_fresh};
 use entry_base::{Session, Shared};
 use entry_rule::{look_step, publish_step};
 use entry_word::{Image, Pending};
@@ -20,6 +17,7 @@ use std::alloc::Global;
 use std::marker::Brand;
 use std::process::Abort;
 use std::sync::ledger::{Blank, Ledger};
+use worked_tables::{SHAPE, change_at, close_both, make_next, open_fresh, put_hidden};
 
 /// Puts the next trusted cell, and tries to bind it to the trusted field of object 0, which variable 0 holds. The answer is the word
 /// that was found.
@@ -39,7 +37,9 @@ fn bind_hidden<L: Ledger>(
     ensures same { SameCaller (view s.old) (view s.new) }
     ensures ticked { steps.new ≡ steps.old + 1 }
 {
-    let index = put_hidden(rt, shared, s, word, next, value, steps);
+    let Some(index) = put_hidden(shared, s, word, next, value, steps) else {
+        panic!(rt; "the freelist word is not the one that was expected");
+    };
     assert_eq!(rt; s.held(0), Some(0));
     bind_trusted(shared, s, 0, 65536 * index, 0x0f, value)
 }
@@ -95,7 +95,7 @@ fn give_ticket<L: Ledger>(rt: &impl Abort, alloc: Global, blank: Blank) -> Resul
     let (shared, mut first) = open_fresh(alloc, SHAPE)?;
     let mut one = first.split(&shared, 0, &[]);
     let mut steps = Steps::<L>::start(blank);
-    make_next(rt, &shared, &mut one, 0, 0);
+    assert!(rt; make_next(&shared, &mut one, 0, 0));
     let none = one.ticket();
     let empty = trusted_word(rt, &shared, &mut one, 0);
     let won = bind_hidden(rt, &shared, &mut one, 0x3_0000_0001, 2, 0xc0, &mut steps);
@@ -108,14 +108,10 @@ fn give_ticket<L: Ledger>(rt: &impl Abort, alloc: Global, blank: Blank) -> Resul
     assert_eq!(rt; given, Some(1));
     assert_eq!(rt; hidden, 0x480f_0000_0000_00c0);
     assert_eq!(rt; after.pending.as_slice()[0], Some(FIRST));
-    assert_change(rt, &before, &after, 39, 0, 0x1_0000);
-    assert_change(
-        rt,
-        &before,
-        &after,
-        73,
-        (1 << 56) + 2,
-        0x480f_0000_0000_00c0,
+    assert_eq!(rt; change_at(&before, &after, 39), Some((0, 0x1_0000)));
+    assert_eq!(rt;
+        change_at(&before, &after, 73),
+        Some(((1 << 56) + 2, 0x480f_0000_0000_00c0))
     );
     Ok(())
 }
@@ -133,7 +129,7 @@ fn publish_and_miss<L: Ledger>(
     let (shared, mut first) = open_fresh(alloc, SHAPE)?;
     let mut one = first.split(&shared, 0, &[]);
     let mut steps = Steps::<L>::start(blank);
-    make_next(rt, &shared, &mut one, 0, 0);
+    assert!(rt; make_next(&shared, &mut one, 0, 0));
     let won = bind_hidden(rt, &shared, &mut one, 0x3_0000_0001, 2, 0xc0, &mut steps);
     publish_first(rt, &shared, &mut one);
     let shown = look_at_first(&shared, &mut one);
@@ -146,21 +142,13 @@ fn publish_and_miss<L: Ledger>(
     assert_eq!(rt; taken, 0x1_0000);
     assert_eq!(rt; none, None);
     assert_eq!(rt; bound, 0x1_0000);
-    assert_change(
-        rt,
-        &before,
-        &after,
-        73,
-        (1 << 56) + 2,
-        0x400f_0000_0000_00c0,
+    assert_eq!(rt;
+        change_at(&before, &after, 73),
+        Some(((1 << 56) + 2, 0x400f_0000_0000_00c0))
     );
-    assert_change(
-        rt,
-        &before,
-        &after,
-        74,
-        (1 << 56) + 3,
-        0x480f_0000_0000_00d0,
+    assert_eq!(rt;
+        change_at(&before, &after, 74),
+        Some(((1 << 56) + 3, 0x480f_0000_0000_00d0))
     );
     Ok(())
 }
@@ -191,8 +179,8 @@ fn share_twice<L: Ledger>(rt: &impl Abort, alloc: Global, blank: Blank) -> Resul
     let mut one = first.split(&shared, 0, &[]);
     assert_eq!(rt; one.in_cycle(), false);
     let mut steps = Steps::<L>::start(blank);
-    make_next(rt, &shared, &mut one, 0, 0);
-    make_next(rt, &shared, &mut one, 1, 1);
+    assert!(rt; make_next(&shared, &mut one, 0, 0));
+    assert!(rt; make_next(&shared, &mut one, 1, 1));
     let won = bind_hidden(rt, &shared, &mut one, 0x3_0000_0001, 2, 0xc0, &mut steps);
     let empty = trusted_word(rt, &shared, &mut one, 1);
     let shared_now = share_first(rt, &shared, &mut one);
@@ -204,8 +192,8 @@ fn share_twice<L: Ledger>(rt: &impl Abort, alloc: Global, blank: Blank) -> Resul
     assert_eq!(rt; shared_now, 0);
     assert_eq!(rt; bound, 0x1_0000);
     assert_eq!(rt; taken, 0x1_0000);
-    assert_change(rt, &before, &after, 39, 0, 0x1_0000);
-    assert_change(rt, &before, &after, 47, 0, 0x1_0000);
+    assert_eq!(rt; change_at(&before, &after, 39), Some((0, 0x1_0000)));
+    assert_eq!(rt; change_at(&before, &after, 47), Some((0, 0x1_0000)));
     Ok(())
 }
 
