@@ -1,1 +1,3 @@
+mod HandsPushed
 mod LeftObjects
+mod TakenChunks
