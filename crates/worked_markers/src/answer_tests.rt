@@ -7,13 +7,13 @@ ghost use Rattle.entry_base.specs.Openings.{phase_of};
 ghost use Rattle.entry_base.specs.Sessions.{view, IsOf};
 ghost use Rattle.mark_rule.specs.Marking.{InHands};
 
-use crate::asked;
-use crate::asked::{FOUR, headers};
+use crate::asked::{FOUR, headers, word_at};
 use crate::cycles::{begin_on, open_with_roots};
 use crate::entries::{bind, bind_published, forge_word, forget, link_to, make};
+use crate::scans::{evacuate_by, mark_by};
 use entry_base::{Session, Shared};
 use entry_word::Image;
-use mark_steps::{Evacuated, Mark, evacuate, mark, ref_at, share_mark, word_at};
+use mark_steps::{Evacuated, Mark, ref_at, share_mark};
 use object_rule::name_trusted;
 use plain_table::{OutOfMemory, Policy};
 use std::alloc::Global;
@@ -64,11 +64,9 @@ fn mark_trusted(rt: &impl Abort, shared: &Shared, s: &mut Session)
     ensures same { SameCaller (view s.old) (view s.new) }
     ensures hands { (view s.new).hands ≡ (view s.old).hands }
 {
-    let word = word_at(shared, s, 0, 2);
-    assert_eq!(rt; word, 0x0001_0000);
-    let set = mark(shared, s, 0, 2, word);
+    let set = mark_by(rt, shared, s, 0, 2, 0x0001_0000);
     assert_eq!(rt; set, Mark::Set);
-    let already = mark(shared, s, 0, 2, word);
+    let already = mark_by(rt, shared, s, 0, 2, 0x0001_0000);
     assert_eq!(rt; already, Mark::Already);
 }
 
@@ -80,16 +78,14 @@ fn mark_external(rt: &impl Abort, shared: &Shared, s: &mut Session)
     ensures same { SameCaller (view s.old) (view s.new) }
     ensures hands { (view s.new).hands ≡ (view s.old).hands }
 {
-    let word = word_at(shared, s, 0, 0);
-    assert_eq!(rt; word, 0x0001_0000);
-    let set = mark(shared, s, 0, 0, word);
+    let set = mark_by(rt, shared, s, 0, 0, 0x0001_0000);
     assert_eq!(rt; set, Mark::Set);
-    let stays = evacuate(shared, s, 0, 0, word);
+    let stays = evacuate_by(rt, shared, s, 0, 0, 0x0001_0000);
     assert_eq!(rt; stays, Evacuated::NotNeeded);
-    let word = word_at(shared, s, 0, 1);
-    assert_eq!(rt; word, 0xffff_0000);
-    let none = mark(shared, s, 0, 1, word);
+    let none = mark_by(rt, shared, s, 0, 1, 0xffff_0000);
     assert_eq!(rt; none, Mark::NoCell);
+    let stays = evacuate_by(rt, shared, s, 0, 1, 0xffff_0000);
+    assert_eq!(rt; stays, Evacuated::NotNeeded);
 }
 
 #[test]
@@ -103,13 +99,13 @@ fn each_answer_of_the_calls_on_an_object_of_the_hands(rt: HostRuntime) -> Result
     mark_external(&rt, &shared, &mut s);
     let image = close_both(shared, first, s);
     assert_eq!(rt; headers(&rt, &image), [1, 0, 3, 3]);
-    assert_eq!(rt; asked::word_at(&rt, &image, 65), 0x400f_0000_0000_00c1);
-    assert_eq!(rt; asked::word_at(&rt, &image, 73), 0x400f_0000_0000_00d1);
-    assert_eq!(rt; asked::word_at(&rt, &image, 74), 0x000f_0000_0000_00d2);
+    assert_eq!(rt; word_at(&rt, &image, 65), 0x400f_0000_0000_00c1);
+    assert_eq!(rt; word_at(&rt, &image, 73), 0x400f_0000_0000_00d1);
+    assert_eq!(rt; word_at(&rt, &image, 74), 0x000f_0000_0000_00d2);
     Ok(())
 }
 
-/// Marks the cell that the trusted field of object 0 names, which variable 0 holds, as a share does: twice.
+/// Marks the cell that the trusted field of object 0 names, which variable 0 holds, as a share does.
 fn mark_to_share(rt: &impl Abort, shared: &Shared, s: &mut Session)
     requires caller { IsOf shared.now s.old }
     requires mutator { (view s.old).number < 8 }
@@ -118,10 +114,11 @@ fn mark_to_share(rt: &impl Abort, shared: &Shared, s: &mut Session)
     ensures same { SameCaller (view s.old) (view s.new) }
 {
     assert_eq!(rt; s.held(0), Some(0));
-    let word = name_trusted(shared, s, 0);
-    assert_eq!(rt; word, 0x0001_0000);
-    share_mark(shared, s, 0, 0x0001_0000);
-    share_mark(shared, s, 0, 0x0001_0000);
+    let word = name_trusted(shared, s, 0) as u32;
+    if word == 0 {
+        panic!(rt; "the field names no cell");
+    }
+    share_mark(shared, s, 0, word);
 }
 
 #[test]
@@ -133,11 +130,10 @@ fn a_cell_to_be_shared_is_marked_by_its_mutator(rt: HostRuntime) -> Result<(), O
     let mut mutator = first.split(&shared, 0, &[]);
     assert_eq!(rt; mutator.in_cycle(), true);
     mark_to_share(&rt, &shared, &mut mutator);
-    let word = word_at(&shared, &mut marker, 0, 2);
-    assert_eq!(rt; word, 0x0001_0000);
-    let already = mark(&shared, &mut marker, 0, 2, word);
+    mark_to_share(&rt, &shared, &mut mutator);
+    let already = mark_by(&rt, &shared, &mut marker, 0, 2, 0x0001_0000);
     assert_eq!(rt; already, Mark::Already);
     let image = close_three(shared, first, mutator, marker);
-    assert_eq!(rt; asked::word_at(&rt, &image, 73), 0x400f_0000_0000_00d1);
+    assert_eq!(rt; word_at(&rt, &image, 73), 0x400f_0000_0000_00d1);
     Ok(())
 }

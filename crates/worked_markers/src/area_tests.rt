@@ -1,18 +1,18 @@
 // A cycle with an area and no room below it: an evacuation aborts the compaction.
-ghost use Rattle.std.specs.Prelude.{◌≡◌, ◌<◌, IfOk};
+ghost use Rattle.std.specs.Prelude.{◌≡◌, [], ◌∷◌, IfOk};
 ghost use Rattle.plain_table.specs.Shows.{IsLawful};
 ghost use Rattle.entry_word.specs.Image.{image_of};
 ghost use Rattle.sweeper.specs.Begin.{HasRoom};
 ghost use Rattle.entry_base.specs.Callers.{SameCaller};
 ghost use Rattle.entry_base.specs.Sessions.{view, IsOf};
-ghost use Rattle.mark_rule.specs.Marking.{InHands};
 
-use crate::asked::TWO;
+use crate::asked::{TWO, word_at};
 use crate::cycles::{begin_on, open_with_roots};
 use crate::entries::{bind, forge_word, make};
+use crate::scans::{evacuate_by, mark_by};
 use entry_base::{Session, Shared};
 use entry_word::Image;
-use mark_steps::{Evacuated, Mark, evacuate, mark, word_at};
+use mark_steps::{Evacuated, Mark};
 use plain_table::{OutOfMemory, Policy};
 use std::alloc::Global;
 use std::process::Abort;
@@ -41,49 +41,41 @@ fn image_without_room(rt: &impl Abort, alloc: Global) -> Result<(Image, Area), O
 /// Evacuates field 1 of object 1, whose cell at index 4 has to move, and field 0 of object 0, whose cell at index 1 has not.
 fn evacuate_both(rt: &impl Abort, shared: &Shared, s: &mut Session)
     requires caller { IsOf shared.now s.old }
-    requires hands { InHands (view s.old) 0 × InHands (view s.old) 1 }
+    requires hands { (view s.old).hands ≡ 0 ∷ 1 ∷ [] }
     ensures caller { IsOf shared.now s.new }
     ensures same { SameCaller (view s.old) (view s.new) }
     ensures hands { (view s.new).hands ≡ (view s.old).hands }
 {
-    let word = word_at(shared, s, 1, 1);
-    assert_eq!(rt; word, 0x0004_0000);
-    let aborted = evacuate(shared, s, 1, 1, word);
+    let aborted = evacuate_by(rt, shared, s, 1, 1, 0x0004_0000);
     assert_eq!(rt; aborted, Evacuated::Aborted);
-    let again = evacuate(shared, s, 1, 1, word);
+    let again = evacuate_by(rt, shared, s, 1, 1, 0x0004_0000);
     assert_eq!(rt; again, Evacuated::Aborted);
-    let word = word_at(shared, s, 0, 0);
-    assert_eq!(rt; word, 0x0001_0000);
-    let stays = evacuate(shared, s, 0, 0, word);
+    let stays = evacuate_by(rt, shared, s, 0, 0, 0x0001_0000);
     assert_eq!(rt; stays, Evacuated::NotNeeded);
 }
 
 /// Marks the cell at index 4 twice.
 fn mark_twice(rt: &impl Abort, shared: &Shared, s: &mut Session)
     requires caller { IsOf shared.now s.old }
-    requires hands { InHands (view s.old) 1 }
+    requires hands { (view s.old).hands ≡ 0 ∷ 1 ∷ [] }
     ensures caller { IsOf shared.now s.new }
     ensures same { SameCaller (view s.old) (view s.new) }
     ensures hands { (view s.new).hands ≡ (view s.old).hands }
 {
-    let word = word_at(shared, s, 1, 1);
-    assert_eq!(rt; word, 0x0004_0000);
-    let set = mark(shared, s, 1, 1, word);
+    let set = mark_by(rt, shared, s, 1, 1, 0x0004_0000);
     assert_eq!(rt; set, Mark::Set);
-    let already = mark(shared, s, 1, 1, word);
+    let already = mark_by(rt, shared, s, 1, 1, 0x0004_0000);
     assert_eq!(rt; already, Mark::Already);
 }
 
 /// Marks by a forged word at whose index no cell stands.
 fn mark_forged(rt: &impl Abort, shared: &Shared, s: &mut Session)
     requires caller { IsOf shared.now s.old }
-    requires hands { InHands (view s.old) 0 }
+    requires hands { (view s.old).hands ≡ 0 ∷ 1 ∷ [] }
     ensures caller { IsOf shared.now s.new }
     ensures same { SameCaller (view s.old) (view s.new) }
 {
-    let word = word_at(shared, s, 0, 0);
-    assert_eq!(rt; word, 0x0005_0000);
-    let none = mark(shared, s, 0, 0, word);
+    let none = mark_by(rt, shared, s, 0, 0, 0x0005_0000);
     assert_eq!(rt; none, Mark::NoCell);
 }
 
@@ -102,7 +94,7 @@ fn an_evacuation_with_no_index_below_the_area_aborts_the_compaction(
     forge_word(&rt, &shared, &mut mutator, 0, 0, 0x0005_0000);
     mark_forged(&rt, &shared, &mut marker);
     let image = close_three(shared, first, marker, mutator);
-    assert_eq!(rt; crate::asked::word_at(&rt, &image, 52), 0x400f_0000_0000_00c4);
-    assert_eq!(rt; crate::asked::word_at(&rt, &image, 49), 0x000f_0000_0000_00c1);
+    assert_eq!(rt; word_at(&rt, &image, 52), 0x400f_0000_0000_00c4);
+    assert_eq!(rt; word_at(&rt, &image, 49), 0x000f_0000_0000_00c1);
     Ok(())
 }

@@ -1,5 +1,5 @@
 // Cycles: their start, the opening of a table with its roots, and their late marking and sweep.
-ghost use Rattle.std.specs.Prelude.{◌≡◌, ◌≤◌, ℕ, [], IfOk, slice_index};
+ghost use Rattle.std.specs.Prelude.{◌≡◌, ◌≤◌, ◌<◌, ◌+◌, ◌*◌, ℕ, IfOk, slice_index};
 ghost use Rattle.plain_table.specs.Shows.{IsLawful};
 ghost use Rattle.word_laws.specs.Small.{AreSmall};
 ghost use Rattle.entry_word.specs.Image.{IsValidShape, image_of, sizes_of};
@@ -9,6 +9,7 @@ ghost use Rattle.entry_base.specs.Lists.{count_in};
 ghost use Rattle.entry_base.specs.Openings.{opening_of};
 ghost use Rattle.entry_base.specs.Sessions.{view, IsOf};
 ghost use Rattle.entry_base.specs.Views.{numbers_below};
+ghost use Rattle.worked_markers.specs.Left.{IsLeft};
 
 use crate::asked::word_at;
 use entry_base::{Session, Shared, area_start, owed_objects};
@@ -49,6 +50,20 @@ fn assert_shape(rt: &impl Abort, image: &Image, shape: Shape)
     assert!(rt; found.tru == shape.tru && found.objects == shape.objects);
 }
 
+/// Marks what is left, whose shaded objects that are not scanned are given, and sweeps.
+fn finish(image: &mut Image, mut area: Area, shaded: &[u32]) -> SweepReport
+    requires valid { IsValidShape image.old.shape }
+    requires lawful { IsLawful (image_of image.old) }
+    requires cycle { slice_index image.old.words.items 4 ≡ 1 }
+    requires room { HasRoom area image.old.shape.objects }
+    requires owed { AreOwed image.old.words.items shaded.now }
+    ensures lawful { IsLawful (image_of image.new) }
+    ensures shape { image.new.shape ≡ image.old.shape }
+{
+    late_mark(image, &mut area, shaded);
+    sweep(image, area)
+}
+
 /// A whole cycle without an area over an image of known sizes outside a cycle, with no phase in it.
 pub(crate) fn cycle_over(
     rt: &impl Abort,
@@ -61,12 +76,11 @@ pub(crate) fn cycle_over(
     ensures lawful { IfOk result (λ t. IsLawful (image_of t.0)) }
     ensures shape { IfOk result (λ t. t.0.shape ≡ shape) }
 {
-    let (mut image, mut area) = begin_on(rt, alloc, image, shape, Policy::Never)?;
+    let (mut image, area) = begin_on(rt, alloc, image, shape, Policy::Never)?;
     let Ok(roots) = Vec::from_slice(alloc, area.roots()) else {
         return Err(OutOfMemory);
     };
-    late_mark(&mut image, &mut area, roots.as_slice());
-    let report = sweep(&mut image, area);
+    let report = finish(&mut image, area, roots.as_slice());
     Ok((image, report))
 }
 
@@ -90,26 +104,33 @@ pub(crate) fn open_with_roots(
     Ok((shared, session, owed))
 }
 
-/// Whether a header is that of a shaded object that is not scanned.
-fn is_grey(header: u64) -> bool {
-    header % 2 == 1 && header / 2 % 2 == 0
-}
-
 /// Asserts that each made object that is shaded is scanned, but for the one of `left`, where there is one.
-fn assert_left(rt: &impl Abort, image: &Image, left: Option<u32>) {
+fn assert_left(rt: &impl Abort, image: &Image, left: Option<u32>)
+    ensures { IsLeft image.now.words.items left (slice_index image.now.words.items 3) }
+{
     let count = word_at(rt, image, 3);
     assert!(rt; count < 65536);
-    for object in 0..count {
+    for object in 0..count as u32 {
         let header = word_at(rt, image, 32 + 8 * object as usize);
-        assert_eq!(rt; is_grey(header), left.map(u64::from) == Some(object));
+        assert!(rt; header % 2 == 0 || header / 2 % 2 == 1 || left == Some(object));
     }
+}
+
+/// Asserts that an object is made and shaded, and not scanned.
+fn assert_shaded(rt: &impl Abort, image: &Image, object: u32)
+    ensures made { object < slice_index image.now.words.items 3 }
+    ensures header { slice_index image.now.words.items (32 + 8 * object) ≡ 1 }
+{
+    assert!(rt; u64::from(object) < word_at(rt, image, 3));
+    let header = word_at(rt, image, 32 + 8 * object as usize);
+    assert_eq!(rt; header, 1);
 }
 
 /// Finishes a cycle after a phase, on an image of known sizes in which each shaded object is scanned.
 pub(crate) fn finish_settled(
     rt: &impl Abort,
     image: &mut Image,
-    mut area: Area,
+    area: Area,
     shape: Shape,
 ) -> SweepReport
     requires valid { IsValidShape shape }
@@ -121,15 +142,14 @@ pub(crate) fn finish_settled(
     assert_shape(rt, image, shape);
     assert_eq!(rt; word_at(rt, image, 4), 1);
     assert_left(rt, image, None);
-    late_mark(image, &mut area, &[]);
-    sweep(image, area)
+    finish(image, area, &[])
 }
 
 /// Finishes a cycle after a phase, on an image of known sizes in which each shaded object but one is scanned.
 pub(crate) fn finish_with_one(
     rt: &impl Abort,
     image: &mut Image,
-    mut area: Area,
+    area: Area,
     shape: Shape,
     left: u32,
 ) -> SweepReport
@@ -141,8 +161,7 @@ pub(crate) fn finish_with_one(
 {
     assert_shape(rt, image, shape);
     assert_eq!(rt; word_at(rt, image, 4), 1);
-    assert!(rt; u64::from(left) < word_at(rt, image, 3));
     assert_left(rt, image, Some(left));
-    late_mark(image, &mut area, &[left]);
-    sweep(image, area)
+    assert_shaded(rt, image, left);
+    finish(image, area, &[left])
 }

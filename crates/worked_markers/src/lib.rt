@@ -2,9 +2,9 @@
 //! answers and swept images are compared with those that were expected.
 //!
 //! This crate has no code but its tests. `asked.rt` has the shapes, tags and words that they ask, `entries.rt` makes objects and
-//! cells, `cycles.rt` begins and finishes cycles, and `scans.rt` scans an object call by call. Evacuations stand in
-//! `area_tests.rt` and `moved_tests.rt`, each answer of each call in `answer_tests.rt`, and runs of a marker in `marker_tests.rt`,
-//! `split_tests.rt` and `thread_tests.rt`.
+//! cells, `many.rt` many of them, `cycles.rt` begins and finishes cycles, and `scans.rt` scans an object call by call. Evacuations
+//! stand in `area_tests.rt` and `moved_tests.rt`, each answer of each call in `answer_tests.rt`, runs of a marker in
+//! `marker_tests.rt`, `split_tests.rt` and `thread_tests.rt`, and those by a pool of chunks in `steal_tests.rt`.
 #![tactic(auto)]
 
 #[cfg(test)]
@@ -18,6 +18,8 @@ mod cycles;
 #[cfg(test)]
 mod entries;
 #[cfg(test)]
+mod many;
+#[cfg(test)]
 mod marker_tests;
 #[cfg(test)]
 mod moved_tests;
@@ -25,5 +27,7 @@ mod moved_tests;
 mod scans;
 #[cfg(test)]
 mod split_tests;
+#[cfg(test)]
+mod steal_tests;
 #[cfg(test)]
 mod thread_tests;

@@ -1,11 +1,10 @@
 // A cell that moves: its field has an evacuation entry, and what a mutator forges after the visit.
-ghost use Rattle.std.specs.Prelude.{◌≡◌, ◌<◌, IfOk};
+ghost use Rattle.std.specs.Prelude.{◌≡◌, ◌<◌, [], ◌∷◌, IfOk};
 ghost use Rattle.plain_table.specs.Shows.{IsLawful};
 ghost use Rattle.entry_word.specs.Image.{image_of};
 ghost use Rattle.sweeper.specs.Begin.{HasRoom};
 ghost use Rattle.entry_base.specs.Callers.{SameCaller};
 ghost use Rattle.entry_base.specs.Sessions.{view, IsOf};
-ghost use Rattle.mark_rule.specs.Marking.{InHands};
 
 use crate::asked::{FOUR, headers, only, word_at};
 use crate::cycles::{begin_on, cycle_over, finish_settled, open_with_roots};
@@ -59,7 +58,7 @@ fn image_to_move(rt: &impl Abort, alloc: Global) -> Result<(Image, Area), OutOfM
 /// Scans the objects 0 and 3: the cell of field 6 has to move, and its evacuation entry stands at 2.
 fn scan_both(rt: &impl Abort, shared: &Shared, s: &mut Session)
     requires caller { IsOf shared.now s.old }
-    requires hands { InHands (view s.old) 0 × InHands (view s.old) 3 }
+    requires hands { (view s.old).hands ≡ 0 ∷ 3 ∷ [] }
     ensures caller { IsOf shared.now s.new }
     ensures same { SameCaller (view s.old) (view s.new) }
 {

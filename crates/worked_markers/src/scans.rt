@@ -1,4 +1,4 @@
-// The scan of an object call by call, with what its evacuations answer.
+// Marks and evacuations by known words, and the scan of an object call by call, with what its evacuations answer.
 ghost use Rattle.std.specs.Prelude.{◌≡◌, ◌<◌};
 ghost use Rattle.entry_base.specs.Callers.{SameCaller};
 ghost use Rattle.entry_base.specs.Lists.{without_one};
@@ -7,8 +7,50 @@ ghost use Rattle.entry_base.specs.Sessions.{view, IsOf};
 ghost use Rattle.mark_rule.specs.Marking.{InHands};
 
 use entry_base::{Session, Shared};
-use mark_steps::{Evacuated, evacuate, mark, ref_at, scanned, word_at};
+use mark_steps::{Evacuated, Mark, evacuate, mark, ref_at, scanned, word_at};
 use std::process::Abort;
+
+/// Reads the word of a field of an object of the hands, which is a known one, and marks by it.
+pub(crate) fn mark_by(
+    rt: &impl Abort,
+    shared: &Shared,
+    s: &mut Session,
+    object: u32,
+    f: u32,
+    known: u32,
+) -> Mark
+    requires caller { IsOf shared.now s.old }
+    requires hands { InHands (view s.old) object }
+    requires few { f < 3 }
+    ensures caller { IsOf shared.now s.new }
+    ensures same { SameCaller (view s.old) (view s.new) }
+    ensures hands { (view s.new).hands ≡ (view s.old).hands }
+{
+    let word = word_at(shared, s, object, f);
+    assert_eq!(rt; word, known);
+    mark(shared, s, object, f, word)
+}
+
+/// Reads the word of an external field of an object of the hands, which is a known one, and evacuates by it.
+pub(crate) fn evacuate_by(
+    rt: &impl Abort,
+    shared: &Shared,
+    s: &mut Session,
+    object: u32,
+    f: u32,
+    known: u32,
+) -> Evacuated
+    requires caller { IsOf shared.now s.old }
+    requires hands { InHands (view s.old) object }
+    requires few { f < 2 }
+    ensures caller { IsOf shared.now s.new }
+    ensures same { SameCaller (view s.old) (view s.new) }
+    ensures hands { (view s.new).hands ≡ (view s.old).hands }
+{
+    let word = word_at(shared, s, object, f);
+    assert_eq!(rt; word, known);
+    evacuate(shared, s, object, f, word)
+}
 
 /// Passes an external field of an object of the hands. The answer is what the evacuation did.
 fn pass_external(shared: &Shared, s: &mut Session, object: u32, f: u32) -> Evacuated

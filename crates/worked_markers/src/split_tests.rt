@@ -1,5 +1,5 @@
 // Two markers on two threads: the hands are split between them, and each object is scanned once.
-ghost use Rattle.std.specs.Prelude.{◌≡◌, ◌≤◌, ℕ, IfOk};
+ghost use Rattle.std.specs.Prelude.{◌≡◌, ◌≤◌, ℕ, [], ◌∷◌, IfOk};
 ghost use Rattle.plain_table.specs.Shows.{IsLawful};
 ghost use Rattle.entry_word.specs.Image.{image_of};
 ghost use Rattle.sweeper.specs.Begin.{HasRoom};

@@ -161,6 +161,18 @@ fn load_all(rt: &impl Abort, shared: &Shared, s: &mut Session)
     load_value(rt, shared, s, 3, 1, 0xc5);
 }
 
+/// Loads by the fields of all live objects of the swept image.
+fn load_after(rt: &impl Abort, alloc: Global, image: Image) -> Result<(), OutOfMemory>
+    requires lawful { IsLawful (image_of image) }
+    requires shape { image.shape ≡ FOUR }
+{
+    let (shared, mut first) = open(alloc, image)?;
+    let mut s = first.split(&shared, 0, &[]);
+    load_all(rt, &shared, &mut s);
+    close_both(shared, first, s);
+    Ok(())
+}
+
 #[test]
 fn a_mutator_works_while_a_marker_runs(rt: HostRuntime) -> Result<(), OutOfMemory> {
     let (image, area) = short_chain(&rt, rt.alloc())?;
@@ -178,9 +190,5 @@ fn a_mutator_works_while_a_marker_runs(rt: HostRuntime) -> Result<(), OutOfMemor
     assert_eq!(rt; scans, own);
     let report = finish(&rt, &mut image, area, shaded);
     assert!(rt; report.kept == 5 && report.freed == 0);
-    let (shared, mut first) = open(rt.alloc(), image)?;
-    let mut s = first.split(&shared, 0, &[]);
-    load_all(&rt, &shared, &mut s);
-    close_both(shared, first, s);
-    Ok(())
+    load_after(&rt, rt.alloc(), image)
 }

@@ -1,0 +1,31 @@
+-- The objects that late marking is handed: those that are left.
+use Rattle.std.proofs.Common.{◌≡◌, ℕ, zero, suc, ◌%◌, ◌/◌, ◌<◌, List, [], ◌∷◌, slice_index, slice_index_or, Option, None, Some, refl, sym, ap, subst, ◌∙◌, arith}
+use Rattle.std.specs.List.{Contains}
+use Rattle.plain_table.specs.Shows.{IsShaded, IsScanned}
+use Rattle.plain_table.specs.Words.{count_place, header_place}
+use Rattle.sweeper.specs.Late.{AreOwed}
+use Rattle.worked_markers.specs.Left.{IsLeft}
+
+pub AreOwed-none : (words : List ℕ) → IsLeft words None (slice_index words count_place) → AreOwed words []
+AreOwed-none words left = record {
+  listed = λ o made shaded white. let bad : None ≡ Some o = left o made shaded white in absurd (cc);
+  owed = λ o there. absurd (omega (arith, there.1));
+  differ = λ i j order less. absurd (omega (arith, less));
+}
+
+only : (q o : ℕ) → Contains (q ∷ []) o → q ≡ o
+only q o (zero, less, is) = is
+only q o (suc k, less, is) = absurd (omega (arith, less))
+
+pub AreOwed-one : (words : List ℕ) (q : ℕ) → IsLeft words (Some q) (slice_index words count_place) → q < slice_index words count_place → slice_index words (header_place q) ≡ 1 → AreOwed words (q ∷ [])
+AreOwed-one words q left made header = record {
+  listed = λ o low shaded white. let is : Some q ≡ Some o = left o low shaded white in (0, omega arith, cc);
+  owed = λ o there. let is : q ≡ o = only q o there in (subst (λ (n : ℕ). n < slice_index words count_place) is made, subst (IsShaded words) is grey, subst (λ (n : ℕ). IsScanned words n → ⊥) is unscanned);
+  differ = λ i j order less. absurd (omega (arith, order, less));
+}
+  where
+    grey : IsShaded words q
+    grey = ap (λ (w : ℕ). w % 2) header
+
+    unscanned : IsScanned words q → ⊥
+    unscanned is = let bad : 0 ≡ 1 = sym (ap (λ (w : ℕ). w / 2 % 2) header) ∙ is in absurd (omega (arith, bad))

@@ -1,0 +1,3 @@
+mod HandsPushed
+mod LeftObjects
+mod TakenChunks

@@ -1,0 +1,14 @@
+use Rattle.std.proofs.Common.{rules}
+use Rattle.entry_base.specs.Sessions.{view}
+use Rattle.entry_base.proofs.OneByOne.{same_trans}
+use Rattle.worked_markers.proofs.HandsPushed.{AreIn-push}
+use Rattle.worked_markers.proofs.many.cut_own.Goals as goal
+
+pub loop-preserved : goal.loop-preserved
+loop-preserved g c =
+    let shaded = c.shade_own-object.ensures in
+    record {
+      caller = shaded.caller;
+      same = same_trans _ _ _ c.loop.invariant.same shaded.same;
+      hands = AreIn-push c.shade_own-object.result c.loop.objects.items c.push.new.self.items (view c.loop.s).hands (view c.shade_own-object.new.s).hands c.loop.invariant.hands (search rules) shaded.hands;
+    }
