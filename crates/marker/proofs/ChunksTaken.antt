@@ -35,10 +35,6 @@ objects_push q (first ∷ chunks) chunk =
     let c = count_append q first.objects.items (objects_of chunks) in
     omega arith
 
-length_push : (chunks : List Chunk) (chunk : Chunk) → length (chunks ++ chunk ∷ []) ≡ length chunks + 1
-length_push [] chunk = refl
-length_push (first ∷ chunks) chunk = let r = length_push chunks chunk in omega arith
-
 pub steals_begin : (v : View) (t : Claims) → Steals v t v t (record { chunks = 0; scans = 0 })
 steals_begin v t = record {
   taken = [];
@@ -92,7 +88,7 @@ module _ (v : View) (t : Claims) (w : View) (m : Claims) (dealt : Dealt) (so_far
     done = so_far.done ++ ran.runs.done;
     shaded = so_far.shaded ++ ran.runs.shaded;
     took = took_push t m u so_far.taken chunk so_far.took took;
-    chunks = length_push so_far.taken chunk ∙ ap (λ n. n + 1) so_far.chunks;
+    chunks = length-append so_far.taken (chunk ∷ []) ∙ ap (λ n. n + 1) so_far.chunks;
     part = part;
     scans = number;
     all = λ q.
