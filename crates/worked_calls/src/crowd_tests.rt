@@ -9,7 +9,7 @@
 // - one init of the common field answered Ok, and each other one Taken with the word that the field still has, whose cell is the
 //   winner's;
 // - each own object has its links and the common trusted word, and the common object is linked to an own one.
-ghost use Rattle.std.specs.Prelude.{◌≡◌, ◌≤◌, ◌<◌, ◌∷◌, [], IfOk};
+ghost use Rattle.std.specs.Prelude.{◌≤◌, ◌<◌, IfOk};
 ghost use Rattle.entry_word.specs.Image.{image_of, sizes_of};
 ghost use Rattle.plain_table.specs.Shows.{IsLawful};
 ghost use Rattle.word_laws.specs.Small.{AreSmall};

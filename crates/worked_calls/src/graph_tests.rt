@@ -1,13 +1,14 @@
 // Each answer of the calls on objects, references and globals, outside a cycle and in one, where a link shades its target.
-ghost use Rattle.std.specs.Prelude.{◌<◌};
+ghost use Rattle.std.specs.Prelude.{◌≡◌, ◌<◌};
 ghost use Rattle.entry_base.specs.Callers.{SameCaller};
+ghost use Rattle.entry_base.specs.Openings.{phase_of};
 ghost use Rattle.entry_base.specs.Sessions.{view, IsOf};
 
 use crate::asked::{TWO, word_at};
 use crate::cycles::begin_on;
 use crate::entries::make;
 use entry_base::{Session, Shared};
-use graph_steps::{drop_var, fetch, fetch_global, link, link_global};
+use graph_steps::{drop_var, fetch, fetch_global, link, link_global, shade};
 use plain_table::{OutOfMemory, Policy, Reply};
 use std::process::Abort;
 use worked_tables::{close_both, open, open_fresh};
@@ -106,6 +107,39 @@ fn link_a_white_object(rt: &impl Abort, shared: &Shared, s: &mut Session)
     let nothing = link(shared, s, 0, 2, None);
     assert_eq!(rt; nothing.reply, Reply::Ok);
     assert_eq!(rt; nothing.shaded, None);
+}
+
+/// Shades object 1, which variable 1 holds in a cycle: it was white at the first shading alone.
+fn shade_twice(rt: &impl Abort, shared: &Shared, s: &mut Session)
+    requires caller { IsOf shared.now s.old }
+    requires mutator { (view s.old).number < 8 }
+    requires cycle { phase_of (view s.old).opening ≡ 1 }
+    ensures caller { IsOf shared.now s.new }
+    ensures same { SameCaller (view s.old) (view s.new) }
+{
+    let fetched = fetch(shared, s, 1, 0, 0);
+    assert_eq!(rt; fetched, Reply::Obj(1));
+    assert_eq!(rt; s.held(1), Some(1));
+    let white = shade(shared, s, 1);
+    assert_eq!(rt; white, true);
+    let again = shade(shared, s, 1);
+    assert_eq!(rt; again, false);
+}
+
+#[test]
+fn a_shading_says_whether_the_object_was_white(rt: HostRuntime) -> Result<(), OutOfMemory> {
+    let (shared, mut first) = open_fresh(rt.alloc(), TWO)?;
+    let mut s = first.split(&shared, 0, &[]);
+    make_linked(&rt, &shared, &mut s);
+    let image = close_both(shared, first, s);
+    let (image, _) = begin_on(&rt, rt.alloc(), image, TWO, Policy::Never)?;
+    let (shared, mut first) = open(rt.alloc(), image)?;
+    let mut s = first.split(&shared, 0, &[]);
+    assert_eq!(rt; s.in_cycle(), true);
+    shade_twice(&rt, &shared, &mut s);
+    let image = close_both(shared, first, s);
+    assert_eq!(rt; word_at(&rt, &image, 40), 1);
+    Ok(())
 }
 
 #[test]

@@ -1,5 +1,5 @@
 // Two threads: each takes and fills an entry, and both try to bind the same field.
-ghost use Rattle.std.specs.Prelude.{◌≡◌, ◌^◌, ◌<◌, IfOk};
+ghost use Rattle.std.specs.Prelude.{◌^◌, ◌<◌, IfOk};
 ghost use Rattle.entry_word.specs.Image.{image_of, sizes_of};
 ghost use Rattle.plain_table.specs.Shows.{IsLawful};
 ghost use Rattle.word_laws.specs.Small.{AreSmall};
