@@ -25,7 +25,8 @@ fn pop_thief(rt: &impl Abort, shared: &Shared, pool: &Pool, thieves: &mut Vec<Th
     ensures thief { IsOneOfTwo shared.now pool.now result }
 {
     // The contract alone speaks of the table and the pool.
-    let _named = (shared, pool);
+    let _table = shared;
+    let _pool = pool;
     thieves.pop().expect(rt, "a thief")
 }
 
