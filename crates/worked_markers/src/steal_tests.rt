@@ -1,5 +1,5 @@
 // Markers that take chunks out of a pool: the first takes all, and both see the end.
-ghost use Rattle.std.specs.Prelude.{◌≡◌, ◌≤◌, All, IfOk, true, vec_len};
+ghost use Rattle.std.specs.Prelude.{◌≡◌, ◌≤◌, All, IfOk, true, length};
 ghost use Rattle.chunk_pool.specs.Claims.{TookEachOnce};
 ghost use Rattle.chunk_pool.specs.Thieves.{claims_of, IsThiefOf};
 ghost use Rattle.entry_base.specs.Callers.{SameCaller};
@@ -30,14 +30,14 @@ fn pop_thief(rt: &impl Abort, shared: &Shared, pool: &Pool, thieves: &mut Vec<Th
     thieves.pop().expect(rt, "a thief")
 }
 
-/// A pool of chunks of a table, and its two thieves.
+/// A pool of eight chunks of a table, and its two thieves.
 fn pool_of_two(
     rt: &impl Abort,
     alloc: Global,
     shared: &Shared,
     chunks: Vec<Chunk>,
 ) -> Result<(Pool, Thief, Thief), OutOfMemory>
-    requires few { vec_len chunks ≤ 512 }
+    requires eight { length chunks.items ≡ 8 }
     requires chunks { All (IsChunkOf shared.now) chunks.items }
     ensures thieves { IfOk result (λ t. IsOneOfTwo shared.now t.0 t.1 × IsOneOfTwo shared.now t.0 t.2) }
 {
@@ -74,12 +74,14 @@ fn join_both(pool: &Pool, mut first: Thief, second: Thief) -> Thief
     requires second { (claims_of second).joined ≡ 1 }
     requires end { (claims_of first).ended ≡ true }
     ensures each { TookEachOnce (claims_of result) }
+    ensures given { (claims_of result).given ≡ (claims_of first).given }
 {
     first.join(pool, second);
     first
 }
 
-/// Two markers steal one after the other, and the first once more: together they took each chunk once, and the first took all.
+/// Two markers steal one after the other, and the first once more: joined they took each of the chunks 0 to 7 once,
+/// all of which the first took.
 fn steal_by_turns(
     rt: &impl Abort,
     marker: &mut Marker,
@@ -96,6 +98,7 @@ fn steal_by_turns(
     ensures callers { IsOf shared.now one.new × IsOf shared.now two.new }
     ensures same { SameCaller (view one.old) (view one.new) × SameCaller (view two.old) (view two.new) }
     ensures each { TookEachOnce (claims_of result) }
+    ensures eight { length (claims_of result).given ≡ 8 }
 {
     let (mut first, mut second) = thieves;
     let all = steal(marker, shared, one, pool, &mut first);
