@@ -121,7 +121,15 @@ fn the_first_of_two_markers_steals_all_chunks(rt: HostRuntime) -> Result<(), Out
     let mut late = first.split(&shared, 8, &[]);
     let (pool, thief, other) = pool_of_two(&rt, rt.alloc(), &shared, chunks)?;
     let mut marker = Marker::new(rt.alloc(), 501)?;
-    steal_by_turns(&rt, &mut marker, &shared, &mut first, &mut late, &pool, (thief, other));
+    steal_by_turns(
+        &rt,
+        &mut marker,
+        &shared,
+        &mut first,
+        &mut late,
+        &pool,
+        (thief, other),
+    );
     let image = close_three(shared, first, mutator, late);
     assert_eq!(rt; word_at(&rt, &image, 32), 1);
     assert_eq!(rt; word_at(&rt, &image, 40), 3);
