@@ -1,5 +1,5 @@
 -- Hands into which an object came, and the list that it was put on.
-use Rattle.std.proofs.Common.{◌≡◌, ℕ, ◌≤◌, List, [], ◌∷◌, ◌++◌, sym, subst, arith}
+use Rattle.std.proofs.Common.{◌≡◌, ℕ, List, [], ◌∷◌, ◌++◌, sym, subst, arith}
 use Rattle.entry_base.specs.Lists.{AreIn}
 use Rattle.entry_base.proofs.Sums.{count_append}
 

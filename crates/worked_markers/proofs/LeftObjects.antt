@@ -1,17 +1,10 @@
--- The objects that late marking is handed: those that are left.
-use Rattle.std.proofs.Common.{◌≡◌, ℕ, zero, suc, ◌%◌, ◌/◌, ◌<◌, List, [], ◌∷◌, slice_index, slice_index_or, Option, None, Some, refl, sym, ap, subst, ◌∙◌, arith}
+-- The object that late marking is handed: the one that is left.
+use Rattle.std.proofs.Common.{◌≡◌, ℕ, zero, suc, ◌%◌, ◌/◌, ◌<◌, List, [], ◌∷◌, slice_index, Some, sym, ap, subst, ◌∙◌, arith}
 use Rattle.std.specs.List.{Contains}
 use Rattle.plain_table.specs.Shows.{IsShaded, IsScanned}
 use Rattle.plain_table.specs.Words.{count_place, header_place}
 use Rattle.sweeper.specs.Late.{AreOwed}
 use Rattle.worked_markers.specs.Left.{IsLeft}
-
-pub AreOwed-none : (words : List ℕ) → IsLeft words None (slice_index words count_place) → AreOwed words []
-AreOwed-none words left = record {
-  listed = λ o made shaded white. let bad : None ≡ Some o = left o made shaded white in absurd (cc);
-  owed = λ o there. absurd (omega (arith, there.1));
-  differ = λ i j order less. absurd (omega (arith, less));
-}
 
 only : (q o : ℕ) → Contains (q ∷ []) o → q ≡ o
 only q o (zero, less, is) = is

@@ -1,5 +1,5 @@
 -- What a thief that takes chunks stays.
-use Rattle.std.proofs.Common.{◌≡◌, ℕ, List, [], ◌∷◌, refl, sym, ap, ◌∙◌}
+use Rattle.std.proofs.Common.{◌≡◌, ℕ, List, [], ◌∷◌, ap, ◌∙◌}
 use Rattle.entry_base.specs.declared.chunks.Chunk.{Chunk}
 use Rattle.chunk_pool.specs.declared.claims.Claims.{Claims}
 use Rattle.chunk_pool.specs.Claims.{with_number}

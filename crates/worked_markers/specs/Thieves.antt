@@ -1,5 +1,5 @@
--- A thief of a pool of two, whose chunks are of a table.
-use Rattle.std.specs.Prelude.{◌≡◌, All}
+-- A thief of a pool of eight chunks of a table and two thieves.
+use Rattle.std.specs.Prelude.{◌≡◌, All, length}
 use Rattle.entry_base.specs.declared.table.Shared.{Shared}
 use Rattle.entry_base.specs.Sessions.{IsChunkOf}
 use Rattle.chunk_pool.specs.declared.pool.Pool.{Pool}
@@ -11,3 +11,4 @@ pub record IsOneOfTwo (shared : Shared) (p : Pool) (t : Thief) : Type 0 where
   pub one : (claims_of t).joined ≡ 1
   pub two : (claims_of t).thieves ≡ 2
   pub chunks : All (IsChunkOf shared) (claims_of t).given
+  pub eight : length (claims_of t).given ≡ 8

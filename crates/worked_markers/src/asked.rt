@@ -38,8 +38,7 @@ pub(crate) fn only(rt: &impl Abort, byte: u8) -> Range {
 pub(crate) fn word_at(rt: &impl Abort, image: &Image, place: usize) -> u64
     ensures { result ≡ slice_index image.now.words.items place }
 {
-    assert!(rt; place < image.words.len());
-    image.words[place]
+    worked_tables::word_at(image, place).expect(rt, "the image has the place")
 }
 
 /// The headers of the four objects of an image of `FOUR`: 0 for white, 1 for shaded, 3 for scanned.

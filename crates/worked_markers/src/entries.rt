@@ -37,14 +37,7 @@ pub(crate) fn make_four(rt: &impl Abort, shared: &Shared, s: &mut Session)
 }
 
 /// Inits an external field, given by a variable and its number, with a cell of the tag 0f, and the field is bound then.
-pub(crate) fn bind(
-    rt: &impl Abort,
-    shared: &Shared,
-    s: &mut Session,
-    var: u32,
-    f: u32,
-    value: u64,
-)
+pub(crate) fn bind(rt: &impl Abort, shared: &Shared, s: &mut Session, var: u32, f: u32, value: u64)
     requires caller { IsOf shared.now s.old }
     requires mutator { (view s.old).number < 8 }
     requires range { (var < 16) × (f < 2) }

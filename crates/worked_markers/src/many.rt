@@ -51,7 +51,7 @@ fn make_holders(rt: &impl Abort, shared: &Shared, s: &mut Session)
     make(rt, shared, s, 0, 0);
     let linked = link_global(shared, s, 0, Some(0));
     assert_eq!(rt; linked, Reply::Ok);
-    for number in 0..250 {
+    for number in 0..250u32 {
         add_holder(rt, shared, s, 2 * number + 1);
     }
     forget(rt, shared, s, 1);
@@ -137,7 +137,7 @@ pub(crate) fn eight_chunks(
     ensures chunks { IfOk result (λ chunks. All (IsChunkOf shared.now) chunks.items) }
 {
     let mut chunks = Vec::new(alloc);
-    for number in 0..8 {
+    for number in 0..8u32 {
         let count = if number < 2 { 32 } else { 31 };
         let Ok(()) = chunks.push(cut_own(rt, alloc, shared, s, count)?) else {
             return Err(OutOfMemory);

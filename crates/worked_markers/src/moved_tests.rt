@@ -65,7 +65,10 @@ fn scan_both(rt: &impl Abort, shared: &Shared, s: &mut Session)
     let low = scan_lone(rt, shared, s, 0);
     assert_eq!(rt; low, (Evacuated::NotNeeded, Evacuated::NotNeeded));
     let high = scan_lone(rt, shared, s, 3);
-    assert_eq!(rt; high, (Evacuated::Placed { index: 2 }, Evacuated::NotNeeded));
+    assert_eq!(rt;
+        high,
+        (Evacuated::Placed { index: 2 }, Evacuated::NotNeeded)
+    );
 }
 
 /// The image in which objects 0 and 3 are scanned and then a word is forged into an external field of a variable's object.

@@ -1,5 +1,5 @@
 // Markers that take chunks out of a pool: the first takes all, and both see the end.
-ghost use Rattle.std.specs.Prelude.{◌≡◌, ◌≤◌, All, IfOk, true, vec_len};
+ghost use Rattle.std.specs.Prelude.{◌≡◌, ◌≤◌, All, IfOk, true, length};
 ghost use Rattle.chunk_pool.specs.Claims.{TookEachOnce};
 ghost use Rattle.chunk_pool.specs.Thieves.{claims_of, IsThiefOf};
 ghost use Rattle.entry_base.specs.Callers.{SameCaller};
@@ -25,18 +25,19 @@ fn pop_thief(rt: &impl Abort, shared: &Shared, pool: &Pool, thieves: &mut Vec<Th
     ensures thief { IsOneOfTwo shared.now pool.now result }
 {
     // The contract alone speaks of the table and the pool.
-    let _named = (shared, pool);
+    let _table = shared;
+    let _pool = pool;
     thieves.pop().expect(rt, "a thief")
 }
 
-/// A pool of chunks of a table, and its two thieves.
+/// A pool of eight chunks of a table, and its two thieves.
 fn pool_of_two(
     rt: &impl Abort,
     alloc: Global,
     shared: &Shared,
     chunks: Vec<Chunk>,
 ) -> Result<(Pool, Thief, Thief), OutOfMemory>
-    requires few { vec_len chunks ≤ 512 }
+    requires eight { length chunks.items ≡ 8 }
     requires chunks { All (IsChunkOf shared.now) chunks.items }
     ensures thieves { IfOk result (λ t. IsOneOfTwo shared.now t.0 t.1 × IsOneOfTwo shared.now t.0 t.2) }
 {
@@ -73,12 +74,14 @@ fn join_both(pool: &Pool, mut first: Thief, second: Thief) -> Thief
     requires second { (claims_of second).joined ≡ 1 }
     requires end { (claims_of first).ended ≡ true }
     ensures each { TookEachOnce (claims_of result) }
+    ensures given { (claims_of result).given ≡ (claims_of first).given }
 {
     first.join(pool, second);
     first
 }
 
-/// Two markers steal one after the other, and the first once more: together they took each chunk once, and the first took all.
+/// Two markers steal one after the other, and the first once more: joined they took each of the chunks 0 to 7 once,
+/// all of which the first took.
 fn steal_by_turns(
     rt: &impl Abort,
     marker: &mut Marker,
@@ -95,6 +98,7 @@ fn steal_by_turns(
     ensures callers { IsOf shared.now one.new × IsOf shared.now two.new }
     ensures same { SameCaller (view one.old) (view one.new) × SameCaller (view two.old) (view two.new) }
     ensures each { TookEachOnce (claims_of result) }
+    ensures eight { length (claims_of result).given ≡ 8 }
 {
     let (mut first, mut second) = thieves;
     let all = steal(marker, shared, one, pool, &mut first);
@@ -117,7 +121,15 @@ fn the_first_of_two_markers_steals_all_chunks(rt: HostRuntime) -> Result<(), Out
     let mut late = first.split(&shared, 8, &[]);
     let (pool, thief, other) = pool_of_two(&rt, rt.alloc(), &shared, chunks)?;
     let mut marker = Marker::new(rt.alloc(), 501)?;
-    steal_by_turns(&rt, &mut marker, &shared, &mut first, &mut late, &pool, (thief, other));
+    steal_by_turns(
+        &rt,
+        &mut marker,
+        &shared,
+        &mut first,
+        &mut late,
+        &pool,
+        (thief, other),
+    );
     let image = close_three(shared, first, mutator, late);
     assert_eq!(rt; word_at(&rt, &image, 32), 1);
     assert_eq!(rt; word_at(&rt, &image, 40), 3);

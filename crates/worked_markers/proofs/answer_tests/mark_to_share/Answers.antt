@@ -1,5 +1,4 @@
 use Rattle.std.proofs.Common.{rules}
-use Rattle.entry_base.specs.Openings.{phase_of}
 use Rattle.entry_base.specs.Sessions.{view}
 use Rattle.mark_steps.proofs.SharedMarks.{saw_named}
 use Rattle.worked_markers.proofs.answer_tests.mark_to_share.Goals as goal
