@@ -280,13 +280,22 @@ fn four_threads_work_at_once(rt: HostRuntime) -> Result<(), OutOfMemory> {
     Ok(())
 }
 
-// Each thread marks the common trusted cell before it shares it, whose mark the start of the cycle has cleared.
+/// The image of the crowd in a cycle with no area, whose start has cleared the mark of the common trusted cell.
+fn crowd_in_a_cycle(rt: &impl Abort, alloc: Global) -> Result<Image, OutOfMemory>
+    ensures lawful { IfOk result (λ image. IsLawful (image_of image)) }
+    ensures small { IfOk result (λ image. AreSmall (sizes_of image.shape)) }
+{
+    let image = image_of_a_crowd(rt, alloc)?;
+    let (image, area) = begin_on(rt, alloc, image, CROWD, Policy::Never)?;
+    assert!(rt; area.start().is_none());
+    assert_eq!(rt; word_at(rt, &image, 113), 0x000f_0000_0000_00c0);
+    Ok(image)
+}
+
+// Each thread marks the common trusted cell before it shares it.
 #[test]
 fn four_threads_work_and_mark_at_once_in_a_cycle(rt: HostRuntime) -> Result<(), OutOfMemory> {
-    let image = image_of_a_crowd(&rt, rt.alloc())?;
-    let (image, area) = begin_on(&rt, rt.alloc(), image, CROWD, Policy::Never)?;
-    assert!(rt; area.start().is_none());
-    assert_eq!(rt; word_at(&rt, &image, 113), 0x000f_0000_0000_00c0);
+    let image = crowd_in_a_cycle(&rt, rt.alloc())?;
     let after = assert_four(&rt, rt.alloc(), image)?;
     assert_eq!(rt; word_at(&rt, &after, 4), 1);
     assert_eq!(rt; word_at(&rt, &after, 113), 0x400f_0000_0000_00c0);
