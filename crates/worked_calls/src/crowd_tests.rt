@@ -17,12 +17,13 @@ ghost use Rattle.entry_base.specs.Callers.{SameCaller};
 ghost use Rattle.entry_base.specs.Sessions.{view, IsOf};
 
 use crate::asked::{tag, word_at};
+use crate::cycles::begin_on;
 use crate::entries::{bind, make, put_new};
 use access_steps::init;
 use entry_base::{Session, Shared};
 use entry_word::{Image, Shape};
 use graph_steps::{fetch_global, link, link_global};
-use plain_table::{OutOfMemory, Reply};
+use plain_table::{OutOfMemory, Policy, Reply};
 use std::alloc::Global;
 use std::process::Abort;
 use std::thread::{Threads, join};
@@ -246,21 +247,57 @@ fn all_work<R: Threads + Sync + Abort>(
     )
 }
 
-#[test]
-fn four_threads_work_at_once(rt: HostRuntime) -> Result<(), OutOfMemory> {
-    let image = image_of_a_crowd(&rt, rt.alloc())?;
-    let (shared, mut first) = open(rt.alloc(), image)?;
+/// Opens an image of the crowd, has four threads work on it at once, and asserts what they left in the image after it.
+fn assert_four<R: Threads + Sync + Abort>(
+    rt: &R,
+    alloc: Global,
+    image: Image,
+) -> Result<Image, OutOfMemory>
+    requires lawful { IsLawful (image_of image) }
+    requires small { AreSmall (sizes_of image.shape) }
+{
+    let (shared, mut first) = open(alloc, image)?;
     let one = first.split(&shared, 0, &[]);
     let two = first.split(&shared, 1, &[]);
     let three = first.split(&shared, 2, &[]);
     let four = first.split(&shared, 3, &[]);
-    let (low, high) = all_work(&rt, &shared, (one, two), (three, four));
+    let (low, high) = all_work(rt, &shared, (one, two), (three, four));
     let ((one, first_work), (two, second_work)) = low;
     let ((three, third_work), (four, fourth_work)) = high;
     let image = close_five(shared, first, (one, two), (three, four));
-    assert_whole(&rt, &image, 12, 0x3_0000_000d, 5);
-    let low = assert_both(&rt, &image, 0, first_work, second_work);
-    let high = assert_both(&rt, &image, 2, third_work, fourth_work);
+    assert_whole(rt, &image, 12, 0x3_0000_000d, 5);
+    let low = assert_both(rt, &image, 0, first_work, second_work);
+    let high = assert_both(rt, &image, 2, third_work, fourth_work);
     assert_eq!(rt; low + high, 1);
+    Ok(image)
+}
+
+#[test]
+fn four_threads_work_at_once(rt: HostRuntime) -> Result<(), OutOfMemory> {
+    let image = image_of_a_crowd(&rt, rt.alloc())?;
+    let after = assert_four(&rt, rt.alloc(), image)?;
+    assert_eq!(rt; word_at(&rt, &after, 4), 0);
+    Ok(())
+}
+
+/// The image of the crowd in a cycle with no area, whose start has cleared the mark of the common trusted cell.
+fn crowd_in_a_cycle(rt: &impl Abort, alloc: Global) -> Result<Image, OutOfMemory>
+    ensures lawful { IfOk result (λ image. IsLawful (image_of image)) }
+    ensures small { IfOk result (λ image. AreSmall (sizes_of image.shape)) }
+{
+    let image = image_of_a_crowd(rt, alloc)?;
+    let (image, area) = begin_on(rt, alloc, image, CROWD, Policy::Never)?;
+    assert!(rt; area.start().is_none());
+    assert_eq!(rt; word_at(rt, &image, 113), 0x000f_0000_0000_00c0);
+    Ok(image)
+}
+
+// Each thread marks the common trusted cell before it shares it.
+#[test]
+fn four_threads_work_and_mark_at_once_in_a_cycle(rt: HostRuntime) -> Result<(), OutOfMemory> {
+    let image = crowd_in_a_cycle(&rt, rt.alloc())?;
+    let after = assert_four(&rt, rt.alloc(), image)?;
+    assert_eq!(rt; word_at(&rt, &after, 4), 1);
+    assert_eq!(rt; word_at(&rt, &after, 113), 0x400f_0000_0000_00c0);
     Ok(())
 }
