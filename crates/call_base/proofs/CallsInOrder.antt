@@ -52,7 +52,7 @@ called_extends v w e by own s x = record {
 -- a call that makes no step
 pub called_none : (v : View) → Called v [] v
 called_none v = record {
-  same = record { opening = refl; number = refl; numbers = refl; knows = λ f has. has };
+  same = record { opening = refl; number = refl; numbers = refl; cut = refl; knows = λ f has. has };
   grown = [];
   seen = sym (append-nil v.seen);
   mine = refl;

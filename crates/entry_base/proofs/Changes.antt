@@ -55,7 +55,7 @@ pub record LowChanges (z : Sizes) (log : List Event) (e : Event) (shown words : 
 module _ (key : Opening) (words : List ℕ) (views : List View) (id : ℕ) (v w : View) (k : Kept key words views) (at : get_elem? views id ≡ some v)
     (more : List Fact) (e : Event) (by : e.by ≡ v.number) (own : HasNumber v v.number) (during : IsDuringPhase e.act)
     (takes : (p : Space) → takes_of p e.act e.said ≡ 0) (seen : w.seen ≡ k.log ++ e ∷ []) (numbers : w.numbers ≡ v.numbers)
-    (facts : w.facts ≡ more ++ v.facts) (hands : w.hands ≡ v.hands) where
+    (cut : w.cut ≡ v.cut) (facts : w.facts ≡ more ++ v.facts) (hands : w.hands ≡ v.hands) where
   abbrev z : Sizes
   z = sizes_in key
 
@@ -91,7 +91,7 @@ module _ (key : Opening) (words : List ℕ) (views : List View) (id : ℕ) (v w 
         }
 
     pub kept_entry : Kept key (set words place n) (set views id w) × (v.opening ≡ key → Extends v e w)
-    kept_entry = adds key words (set words place n) views id v w k at (set k.shown place n) more numbers facts
+    kept_entry = adds key words (set words place n) views id v w k at (set k.shown place n) more numbers cut facts
         (IsNear-set z words k.shown place n k.near)
         (linked_entry z words place n (let a = entry_place-below z p i below in let b = wide in let c = k.near.whole in omega arith) usable)
         (same_hands (set k.shown place n) (grey_low z k.shown place n (λ o made. apart o made)))
@@ -112,7 +112,7 @@ module _ (key : Opening) (words : List ℕ) (views : List View) (id : ℕ) (v w 
         }
 
     pub kept_low : Kept key (set words place n) (set views id w) × (v.opening ≡ key → Extends v e w)
-    kept_low = adds key words (set words place n) views id v w k at (set k.shown place n) more numbers facts
+    kept_low = adds key words (set words place n) views id v w k at (set k.shown place n) more numbers cut facts
         (IsNear-set z words k.shown place n k.near) (linked_low z words place n low)
         (same_hands (set k.shown place n) (grey_low z k.shown place n (λ o made. no_header o)))
         e by own during seen add_low

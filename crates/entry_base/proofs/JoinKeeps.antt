@@ -14,6 +14,7 @@ use Rattle.entry_base.specs.declared.view.Opening.{Opening}
 use Rattle.entry_word.specs.declared.image.Pending.{Pending}
 use Rattle.entry_base.specs.declared.view.View.{View}
 use Rattle.entry_base.specs.Lists.{StartsWith, Each, total, count_in, longer, shorter}
+use Rattle.entry_base.specs.Hands.{cut_off, loose}
 use Rattle.entry_base.specs.Numbers.{HasNumber, IsQuiet, Stands}
 use Rattle.entry_base.specs.Owns.{Owns}
 use Rattle.entry_base.specs.Openings.{pending_cell, sizes_in}
@@ -21,6 +22,7 @@ use Rattle.entry_base.specs.Facts.{TableKnows, IsKnown, GoesOn}
 use Rattle.entry_base.specs.declared.view.Fact.{Fact}
 use Rattle.entry_base.specs.Rule.{Kept, Ruled}
 use Rattle.entry_base.specs.Views.{pick_from, has_number, joined_fact, both, absorber, spent}
+use Rattle.entry_base.proofs.CutsStay.{both_cut, both_loose, chunk_cut, chunk_loose, cuts_join}
 use Rattle.entry_base.proofs.Sums.{count_append, total_set, views_set, each_map, each_append, each_last}
 
 -- elements of a list that is picked from two
@@ -97,6 +99,7 @@ histories_met log v u a b t = go (nat_lt (length v.seen) (length u.seen)) refl
 
 module _ (key : Opening) (words : List ℕ) (views : List View) (id : ℕ) (v : View) (other : ℕ) (u w : View) (k : Kept key words views) (at : get_elem? views id ≡ some v) (apart : ¬ (other ≡ id)) (there : get_elem? (set views id w) other ≡ some u)
     (numbers : (n : ℕ) → count_in n w.numbers ≡ count_in n v.numbers + count_in n u.numbers) (hands : (o : ℕ) → count_in o w.hands ≡ count_in o v.hands + count_in o u.hands)
+    (less : (o : ℕ) → loose o w ≤ loose o v + loose o u) (cuts : (o : ℕ) → cut_off o v + cut_off o u ≤ cut_off o w)
     (seen : w.seen ≡ longer v.seen u.seen) (more : List Fact) (facts : w.facts ≡ more ++ (v.facts ++ u.facts))
     (tells : (s : Table) → Each (IsKnown (sizes_in key) k.log s k.shown words) more)
     (owns : (s : Table) → Owns s v → Owns s u → Owns s w) where
@@ -126,6 +129,7 @@ module _ (key : Opening) (words : List ℕ) (views : List View) (id : ℕ) (v : 
           (record { rest = k.log; seen = refl; quiet = none_quiet k.log });
     };
     hands = λ o. sum_joined (λ x. count_in o x.hands) (hands o) refl ∙ k.hands o;
+    cuts = cuts_join views id v other u w spent at there k.cuts less cuts (λ o. refl);
     states = λ b base.
         let st = (k.states b base).state in record {
           follows = (k.states b base).follows;
@@ -185,12 +189,14 @@ module _ (v u : View) (pv : HasPlaces v) (pu : HasPlaces u) (s : Table) (ov : Ow
 
 pub joins : (key : Opening) (id : ℕ) (v : View) (other : ℕ) (u : View) → HasPlaces v → HasPlaces u → Joins {S = Unit {0}} {V = View} (Ruled key) id v other u (both v u) spent
 joins key id v other u pv pu s k at apart there = kept_joined key s.words s.views id v other u (both v u) k at apart there
-    (λ n. count_append n v.numbers u.numbers) (λ o. count_append o v.hands u.hands) refl (joined_fact v u ∷ []) refl
+    (λ n. count_append n v.numbers u.numbers) (λ o. count_append o v.hands u.hands)
+    (λ o. both_loose o v.numbers u.numbers v.hands u.hands) (λ o. both_cut o v.numbers u.numbers v.cut u.cut) refl (joined_fact v u ∷ []) refl
     (λ t. ((histories_met k.log v u (k.numbers.stands id v at) (k.numbers.stands other u (sym (set_else s.views id other (both v u) apart) ∙ there)) t, tt), tt))
     (λ t ov ou. owns_both v u pv pu t ov ou)
 
 pub absorbs : (key : Opening) (id : ℕ) (v : View) (other : ℕ) (u : View) → u.numbers ≡ [] → Joins {S = Unit {0}} {V = View} (Ruled key) id v other u (absorber v u) spent
 absorbs key id v other u none s k at apart there = kept_joined key s.words s.views id v other u (absorber v u) k at apart there
-    (λ n. let z : count_in n u.numbers ≡ 0 = ap (count_in n) none in omega arith) (λ o. count_append o v.hands u.hands) refl (joined_fact v u ∷ []) refl
+    (λ n. let z : count_in n u.numbers ≡ 0 = ap (count_in n) none in omega arith) (λ o. count_append o v.hands u.hands)
+    (λ o. chunk_loose o v.numbers u.numbers v.hands u.hands none) (λ o. chunk_cut o v.numbers u.numbers v.cut u.cut none) refl (joined_fact v u ∷ []) refl
     (λ t. ((histories_met k.log v u (k.numbers.stands id v at) (k.numbers.stands other u (sym (set_else s.views id other (absorber v u) apart) ∙ there)) t, tt), tt))
     (λ t ov ou. record { variables = ov.variables; pending = ov.pending; owed = ov.owed; fresh = ov.fresh })

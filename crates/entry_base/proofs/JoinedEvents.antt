@@ -109,6 +109,7 @@ joined v u w l = record {
   pending = l.loaded.own.pending;
   owed = l.loaded.own.owed;
   fresh = l.loaded.own.fresh;
+  cut = l.loaded.same.cut;
 }
 
 pub absorbed : (v u w : View) → u.numbers ≡ [] → Met (absorber v u) w → Absorbed v u w
@@ -119,6 +120,7 @@ absorbed v u w none l = record {
   pending = l.loaded.own.pending;
   owed = l.loaded.own.owed;
   fresh = l.loaded.own.fresh;
+  cut = l.loaded.same.cut;
 }
 
 -- what is put together can call again

@@ -8,18 +8,23 @@ use Rattle.atomic_table.specs.Table.{Final, Seen}
 use Rattle.plain_table.specs.Table.{Table}
 use Rattle.plain_table.specs.History.{IsLegalHistory, after}
 use Rattle.word_laws.proofs.AreaReads.{AreaWordsTell-shown}
-use Rattle.entry_base.specs.Lists.{Each}
-use Rattle.plain_table.specs.Shows.{PendingCell, IsPending, Shows, IsCovered}
+use Rattle.entry_base.specs.Lists.{Each, Has, count_in}
+use Rattle.entry_base.specs.Hands.{LeavesToScan, grey}
+use Rattle.plain_table.specs.Shows.{PendingCell, IsPending, Shows, IsCovered, IsShaded}
 use Rattle.entry_base.specs.declared.view.Opening.{Opening}
 use Rattle.entry_word.specs.declared.image.Pending.{Pending}
 use Rattle.entry_word.specs.Image.{sizes_of}
 use Rattle.entry_base.specs.declared.view.View.{View}
+use Rattle.entry_base.specs.declared.view.Fact.TheVariants as fact
+use Rattle.entry_base.specs.Facts.{IsKnown}
 use Rattle.entry_base.specs.Numbers.{HasNumber, IsPhaseEvent}
 use Rattle.entry_base.specs.Openings.{pending_cell, IsBase, sizes_in}
 use Rattle.entry_base.specs.Rule.{Kept, Ruled, StateKept}
 use Rattle.word_laws.specs.Small.{AreSmall}
 use Rattle.entry_base.specs.Callers.{IsClosed}
 use Rattle.entry_base.specs.Closing.{IsTableClosed}
+use Rattle.entry_base.proofs.CutsStay.{hands_or_cut}
+use Rattle.entry_base.proofs.Sums.{among, each_has}
 use Rattle.entry_base.proofs.WholeHistory.{closes}
 use Rattle.entry_base.proofs.ClosedWords.{closed_words}
 
@@ -89,6 +94,17 @@ module _ (key : Opening) (words later : List ℕ) (v : View) (l : Last key words
         start = sym (AreaWordsTell-shown closed.words (after base v.seen) now.sound (subst AreSmall (sym now.shows.sizes) small) now.shows.words).start ∙ st.start;
       }
 
+  -- what is left to scan
+  pub leaves_to_scan : LeavesToScan v closed
+  leaves_to_scan =
+      let words_are : closed.words ≡ l.kept.shown = same l.kept.base l.kept.is_base in
+      let greys : (o : ℕ) → grey (sizes_in closed) closed.words o ≡ grey (sizes_in key) l.kept.shown o = λ o i. grey (sizes i) (words_are i) o in record {
+        hands = λ o. let a = greys o in let b = l.kept.hands o in let c = hands_or_cut l.kept.log l.views l.id v l.kept.numbers l.at all l.kept.cuts o in omega arith;
+        held = λ o. let a = greys o in let b = l.kept.hands o in let c = among (λ (x : View). count_in o x.hands) l.views l.id v l.at in omega arith;
+        shaded = λ o has. subst (λ ws. IsShaded ws o) (sym words_are)
+            (each_has (IsKnown (sizes_in key) v.seen (after l.kept.base v.seen) l.kept.shown words) v.facts (fact.Shaded o) ((last l.kept.base l.kept.is_base).known l.id v l.at) has).1.1;
+      }
+
 -- what is known of the room and the session at the end
 pub few_last : (key : Opening) (words : List ℕ) (v : View) → Last key words v → AreSmall (sizes_in key)
 few_last key words v l = l.kept.few
@@ -121,6 +137,8 @@ last_long key words v l =
     l.kept.near.whole ∙ (st.shows.whole ∙ ap words_in_all st.sizes)
 
 pub ends_opened : (key : Opening) (words later : List ℕ) (v : View) (l : Last key words v) → v.opening ≡ key → ((n : ℕ) → n ≤ 12 → HasNumber v n) → length v.vars ≡ 128 → length v.pending ≡ 8
-    → IsTableClosed (sizes_in key) words later → (closed : Opening) → closed.shape ≡ key.shape → closed.words ≡ later → closed.vars ≡ v.vars → closed.pending ≡ v.pending → IsClosed v.opening v.seen closed
-ends_opened key words later v l opened all many eight done closed shape is_words is_vars is_pending =
-    subst (λ k. IsClosed k v.seen closed) (sym opened) (ends_closed key words later v l all many eight done closed shape is_words is_vars is_pending)
+    → IsTableClosed (sizes_in key) words later → (closed : Opening) → closed.shape ≡ key.shape → closed.words ≡ later → closed.vars ≡ v.vars → closed.pending ≡ v.pending → IsClosed v.opening v.seen closed × LeavesToScan v closed
+ends_opened key words later v l opened all many eight done closed shape is_words is_vars is_pending = (
+  subst (λ k. IsClosed k v.seen closed) (sym opened) (ends_closed key words later v l all many eight done closed shape is_words is_vars is_pending),
+  leaves_to_scan key words later v l all many eight done closed shape is_words is_vars is_pending,
+)

@@ -1,6 +1,7 @@
 pub mod Sums
 pub mod FactsStay
 pub mod Classes
+pub mod CutsStay
 pub mod OwnsStay
 pub mod Greys
 pub mod Steps

@@ -25,7 +25,7 @@ learns key slots id me i opened = allows key slots id me i (λ n. n) (meets (ste
       (
         record {
           loaded = record {
-            same = record { opening = refl; number = refl; numbers = refl; knows = λ f has. has };
+            same = record { opening = refl; number = refl; numbers = refl; cut = refl; knows = λ f has. has };
             own = record { vars = refl; pending = refl; owed = refl; fresh = refl };
             looks = look.1 opened;
             hands = refl;

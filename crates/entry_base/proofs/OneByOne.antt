@@ -18,6 +18,7 @@ same_trans u v w a b = record {
   opening = b.opening ∙ a.opening;
   number = b.number ∙ a.number;
   numbers = b.numbers ∙ a.numbers;
+  cut = b.cut ∙ a.cut;
   knows = λ f has. b.knows f (a.knows f has);
 }
 

@@ -19,6 +19,7 @@ use Rattle.entry_word.specs.declared.image.Pending.{Pending}
 use Rattle.entry_word.specs.Image.{pending_of}
 use Rattle.entry_base.specs.declared.view.View.{View}
 use Rattle.entry_base.specs.Lists.{Each, count_in}
+use Rattle.entry_base.specs.Hands.{loose}
 use Rattle.entry_base.specs.Numbers.{Stands}
 use Rattle.entry_base.specs.Owns.{Owns}
 use Rattle.entry_base.specs.Openings.{pending_cell, IsBase, sizes_in, greys}
@@ -111,6 +112,7 @@ opens key b base few = record {
     stands = one (Stands []) (record { rest = []; seen = refl; quiet = tt });
   };
   hands = λ o. let c = count_greys key.words (sizes_in key).objects o in let z : count_in o (first_view key).hands + 0 ≡ count_in o (first_view key).hands = omega arith in z ∙ c;
+  cuts = λ o. let z : loose o (first_view key) ≡ 0 = refl in omega arith;
   states = λ s is. record {
     follows = tt;
     state = record {

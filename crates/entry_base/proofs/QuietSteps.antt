@@ -36,7 +36,7 @@ module _ (key : Opening) (words : List ℕ) (views : List View) (id : ℕ) (v : 
   pub kept_look : ((s : Table) → Given key k.log k.shown words v s → Each (IsKnown (sizes_in key) k.log s k.shown words) more)
       → Kept key words (set views id looker) × (v.opening ≡ key → Looks v looker)
   kept_look tells =
-      sees key words words views id v looker k at k.shown more refl refl k.near (λ p i below usable. usable) (λ o. refl) refl (λ s g. record {
+      sees key words words views id v looker k at k.shown more refl refl refl k.near (λ p i below usable. usable) (λ o. refl) (inr refl) refl (λ s g. record {
         shows = g.shows;
         covered = g.covered;
         steady = still (sizes_in key) k.log k.log s s k.shown (λ o n. refl) (λ p. refl);
@@ -47,13 +47,13 @@ module _ (key : Opening) (words : List ℕ) (views : List View) (id : ℕ) (v : 
   -- and one with an event that writes no word
   module _ (e : Event) (w : View) (by : e.by ≡ v.number) (own : HasNumber v v.number) (during : IsDuringPhase e.act) (nothing : WritesNothing e.act e.said)
       (takes : (p : Space) → takes_of p e.act e.said ≡ 0) (seen : w.seen ≡ k.log ++ e ∷ []) (numbers : w.numbers ≡ v.numbers)
-      (facts : w.facts ≡ more ++ v.facts) (hands : w.hands ≡ v.hands) where
+      (cut : w.cut ≡ v.cut) (facts : w.facts ≡ more ++ v.facts) (hands : w.hands ≡ v.hands) where
     no_link : (o n : ℕ) (var : Option ℕ) → e.act ≡ Link (Ref o n) var → ⊥
     no_link o n var is = subst (λ a. WritesNothing a e.said) is nothing
 
     pub kept_event : ((s : Table) → Given key k.log k.shown words v s → IsLegal s e × Owns (next s e) w × Each (IsKnown (sizes_in key) (k.log ++ e ∷ []) (next s e) k.shown words) more)
         → Kept key words (set views id w) × (v.opening ≡ key → Extends v e w)
-    kept_event step = adds key words words views id v w k at k.shown more numbers facts k.near (λ p i below usable. usable)
+    kept_event step = adds key words words views id v w k at k.shown more numbers cut facts k.near (λ p i below usable. usable)
         (λ o. ap (λ (h : List ℕ). count_in o h + grey (sizes_in key) k.shown o) hands) e by own during seen add
       where
         add : (s : Table) → Given key k.log k.shown words v s → Adds (sizes_in key) k.log e k.shown k.shown words w more s

@@ -10,11 +10,13 @@ use Rattle.entry_base.specs.declared.view.Opening.{Opening}
 use Rattle.entry_base.specs.declared.view.View.{View}
 use Rattle.entry_base.specs.declared.view.Claim.{Claim}
 use Rattle.entry_base.specs.Lists.{Each, total, count_in, without_one, AreIn, without_all}
+use Rattle.entry_base.specs.Hands.{cut_off, loose}
 use Rattle.entry_base.specs.Numbers.{HasNumber, Stands}
 use Rattle.entry_base.specs.Owns.{Owns}
 use Rattle.entry_base.specs.Rule.{Kept, Ruled}
 use Rattle.entry_base.specs.Views.{claims_but, giver, newcomer, cutter, chunk_view}
-use Rattle.entry_base.proofs.Sums.{total_set, total_append, views_set, each_map, count_without}
+use Rattle.entry_base.proofs.CutsStay.{chunk_cuts, cuts_part, split_cuts}
+use Rattle.entry_base.proofs.Sums.{total_set, total_append, views_set, each_map, count_self, count_without}
 
 pub count_all : (ns ms : List ℕ) → AreIn ns ms → (m : ℕ) → count_in m (without_all ns ms) + count_in m ns ≡ count_in m ms
 count_all [] ms h m = omega arith
@@ -62,6 +64,7 @@ views_cut P views id left right all l r j u at =
 module _ (key : Opening) (words : List ℕ) (views : List View) (id : ℕ) (v left right : View) (k : Kept key words views) (at : get_elem? views id ≡ some v)
     (numbers : (n : ℕ) → count_in n left.numbers + count_in n right.numbers ≡ count_in n v.numbers)
     (hands : (o : ℕ) → count_in o left.hands + count_in o right.hands ≡ count_in o v.hands)
+    (cuts : (o : ℕ) → loose o left + loose o right + cut_off o v ≤ loose o v + cut_off o left + cut_off o right)
     (seen : (left.seen ≡ v.seen) × (right.seen ≡ v.seen)) (facts : (left.facts ≡ v.facts) × (right.facts ≡ v.facts))
     (owns : (s : Table) → Owns s v → Owns s left × Owns s right) where
   sum_cut : (f : View → ℕ) → f left + f right ≡ f v → total f (set views id left ++ right ∷ []) ≡ total f views
@@ -90,6 +93,7 @@ module _ (key : Opening) (words : List ℕ) (views : List View) (id : ℕ) (v le
           (quiet_part left (λ n. let a = numbers n in omega arith) seen.0) (quiet_part right (λ n. let a = numbers n in omega arith) seen.1);
     };
     hands = λ o. sum_cut (λ x. count_in o x.hands) (hands o) ∙ k.hands o;
+    cuts = cuts_part views id v left right at k.cuts cuts;
     states = λ b base.
         let st = (k.states b base).state in record {
           follows = (k.states b base).follows;
@@ -107,9 +111,10 @@ module _ (key : Opening) (words : List ℕ) (views : List View) (id : ℕ) (v le
         };
   }
 
-pub splits : (key : Opening) (id : ℕ) (v : View) (n : ℕ) (objects : List ℕ) → HasNumber v n → AreIn objects v.hands → Splits {S = Unit {0}} {V = View} (Ruled key) id v (giver n objects v) (newcomer n objects v)
-splits key id v n objects has are s k at = kept_cut key s.words s.views id v (giver n objects v) (newcomer n objects v) k at
-    (λ m. count_without n v.numbers m has) (count_all objects v.hands are) (refl, refl) (refl, refl)
+pub splits : (key : Opening) (id : ℕ) (v : View) (n : ℕ) (objects : List ℕ) → HasNumber v v.number → HasNumber v n → n ≢ v.number → AreIn objects v.hands → Splits {S = Unit {0}} {V = View} (Ruled key) id v (giver n objects v) (newcomer n objects v)
+splits key id v n objects own has ne are s k at = kept_cut key s.words s.views id v (giver n objects v) (newcomer n objects v) k at
+    (λ m. count_without n v.numbers m has) (count_all objects v.hands are)
+    (λ o. split_cuts o v.number n v (giver n objects v) (newcomer n objects v) (other_left n v.number v.numbers ne own) (let c = count_self n [] in omega arith) refl) (refl, refl) (refl, refl)
     (λ t o. (
       record {
         variables = λ b i hb few low. o.variables b i (less b hb) few low;
@@ -131,9 +136,10 @@ splits key id v n objects has are s k at = kept_cut key s.words s.views id v (gi
     mine : (b : ℕ) → 1 ≤ count_in b (n ∷ []) → HasNumber v b
     mine b h = let a = count_without n v.numbers b has in omega arith
 
-pub cuts : (key : Opening) (id : ℕ) (v : View) (objects : List ℕ) → AreIn objects v.hands → Splits {S = Unit {0}} {V = View} (Ruled key) id v (cutter objects v) (chunk_view objects v)
-cuts key id v objects are s k at = kept_cut key s.words s.views id v (cutter objects v) (chunk_view objects v) k at
-    (λ m. omega arith) (count_all objects v.hands are) (refl, refl) (refl, refl)
+pub cuts : (key : Opening) (id : ℕ) (v : View) (objects : List ℕ) → HasNumber v v.number → AreIn objects v.hands → Splits {S = Unit {0}} {V = View} (Ruled key) id v (cutter objects v) (chunk_view objects v)
+cuts key id v objects own are s k at = kept_cut key s.words s.views id v (cutter objects v) (chunk_view objects v) k at
+    (λ m. omega arith) (count_all objects v.hands are)
+    (λ o. chunk_cuts o v.number objects v (cutter objects v) (chunk_view objects v) own refl refl refl) (refl, refl) (refl, refl)
     (λ t o. (
       record { variables = o.variables; pending = o.pending; owed = o.owed; fresh = o.fresh },
       record {

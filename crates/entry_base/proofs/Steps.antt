@@ -1,6 +1,6 @@
 -- What every kind of step shares: an event is added to the history, or none is; one word is changed, or none; one view is
 -- changed. What is left to show for a kind is said of one sound table (`Adds`, `Leaves`).
-use Rattle.std.proofs.Common.{◌≡◌, ◌≢◌, ℕ, zero, suc, ◌+◌, ◌<◌, ◌≤◌, List, [], ◌∷◌, ◌++◌, set, get_or, Option, Some, None, refl, sym, ap, subst, ◌∙◌, inl, inr, arith, append_assoc, append-nil}
+use Rattle.std.proofs.Common.{◌≡◌, ◌≢◌, ℕ, zero, suc, ◌+◌, ◌<◌, ◌≤◌, List, [], ◌∷◌, ◌++◌, set, get_or, Option, Some, None, refl, sym, ap, subst, ◌∙◌, ◌⊎◌, inl, inr, arith, append_assoc, append-nil}
 use Rattle.std.proofs.lemmas.Bool.{cases_lt}
 use Rattle.std.proofs.lemmas.List.{set-get_or}
 use mathlib.Core.Option.{some}
@@ -34,6 +34,7 @@ use Rattle.entry_base.specs.Rule.{StateKept, Kept, Ruled}
 use Rattle.entry_base.specs.Openings.{IsBase, start_of, phase_of, sizes_in}
 use Rattle.entry_base.specs.Histories.{AreTrueOf}
 use Rattle.entry_base.specs.Callers.{Looks, Extends}
+use Rattle.entry_base.proofs.CutsStay.{cuts_set}
 use Rattle.entry_base.proofs.Sums.{total_set, among, both_among, views_set, each_map, each_append}
 use Rattle.entry_base.proofs.FactsStay.{WordsSteady, StaysLinked, fact_stays}
 use Rattle.entry_base.proofs.OwnsStay.{owns_other}
@@ -141,7 +142,7 @@ given key words views id v k at b base = let st = (k.states b base).state in rec
 }
 
 module _ (key : Opening) (words now : List ℕ) (views : List View) (id : ℕ) (v w : View) (k : Kept key words views) (at : get_elem? views id ≡ some v)
-    (later : List ℕ) (more : List Fact) (numbers : w.numbers ≡ v.numbers) (facts : w.facts ≡ more ++ v.facts)
+    (later : List ℕ) (more : List Fact) (numbers : w.numbers ≡ v.numbers) (cut : w.cut ≡ v.cut) (facts : w.facts ≡ more ++ v.facts)
     (near : IsNear (sizes_in key) now later) (ahead : StaysLinked (sizes_in key) words now)
     (hands : (o : ℕ) → count_in o w.hands + grey (sizes_in key) k.shown o ≡ count_in o v.hands + grey (sizes_in key) later o) where
   mine : Stands k.log v
@@ -174,7 +175,7 @@ module _ (key : Opening) (words now : List ℕ) (views : List View) (id : ℕ) (
   known_all log longer s t stay was new =
       subst (Each (IsKnown (sizes_in key) longer t later now)) (sym facts) (each_append (IsKnown (sizes_in key) longer t later now) more v.facts new (each_map _ _ v.facts stay was))
 
-  module _ (seen : w.seen ≡ k.log) (step : (s : Table) → Given key k.log k.shown words v s → Leaves (sizes_in key) k.log k.shown later now w more s) where
+  module _ (sits : HasNumber v v.number ⊎ (w.hands ≡ v.hands)) (seen : w.seen ≡ k.log) (step : (s : Table) → Given key k.log k.shown words v s → Leaves (sizes_in key) k.log k.shown later now w more s) where
     state_left : (s : Table) → StateKept key k.log k.shown words views s → Leaves (sizes_in key) k.log k.shown later now w more s
         → StateKept key k.log later now (set views id w) s
     state_left s st left = record {
@@ -214,6 +215,7 @@ module _ (key : Opening) (words now : List ℕ) (views : List View) (id : ℕ) (
               (record { rest = []; seen = sym seen ∙ sym (append-nil w.seen); quiet = tt });
         };
         hands = hands_set (sizes_in key) k.shown later views id v w at k.hands hands;
+        cuts = cuts_set views id v w at k.cuts numbers cut sits;
         states = λ b base. record {
           follows = (k.states b base).follows;
           state = state_left (after b k.log) (k.states b base).state (step (after b k.log) (given key words views id v k at b base));
@@ -293,6 +295,7 @@ module _ (key : Opening) (words now : List ℕ) (views : List View) (id : ℕ) (
               });
         };
         hands = hands_set (sizes_in key) k.shown later views id v w at k.hands hands;
+        cuts = cuts_set views id v w at k.cuts numbers cut (inl own);
         states = λ b base.
             let add = step (after b k.log) (given key words views id v k at b base) in record {
               follows = legal_snoc b k.log e (k.states b base).follows add.legal;

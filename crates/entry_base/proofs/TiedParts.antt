@@ -207,9 +207,9 @@ given_number key n objects v is has ne are = (
     none_at : count_in v.number (n ∷ []) ≡ 0
     none_at = ap (λ (b : Bool). (if b then 1 else 0) + 0) (ne_eqb v.number n (λ e. ne (sym e)))
 
-pub splits_as : (key : Opening) (id : ℕ) (v : View) (m n : ℕ) (given objects : List ℕ) → m ≡ n → given ≡ objects → HasNumber v n → AreIn objects v.hands
+pub splits_as : (key : Opening) (id : ℕ) (v : View) (m n : ℕ) (given objects : List ℕ) → m ≡ n → given ≡ objects → HasNumber v v.number → HasNumber v n → n ≢ v.number → AreIn objects v.hands
     → Splits {S = Unit {0}} {V = View} (Ruled key) id v (giver m given v) (newcomer m given v)
-splits_as key id v m n given objects same all has are = splits key id v m given (subst (HasNumber v) (sym same) has) (subst (λ (l : List ℕ). AreIn l v.hands) (sym all) are)
+splits_as key id v m n given objects same all own has ne are = splits key id v m given own (subst (HasNumber v) (sym same) has) (subst (λ k. k ≢ v.number) (sym same) ne) (subst (λ (l : List ℕ). AreIn l v.hands) (sym all) are)
 
 -- the two views, and what a contract says of them
 pub record SplitLeaves (key : Opening) (n : ℕ) (objects : List ℕ) (v left right : View) : Type 0 where
@@ -233,9 +233,9 @@ cut_calls key objects v is are = (
   record { opened = is.opened; numbers = refl; lawful = is.lawful; hands = each_in _ objects v.hands are is.hands },
 )
 
-pub cuts_as : (key : Opening) (id : ℕ) (v : View) (given objects : List ℕ) → given ≡ objects → AreIn objects v.hands
+pub cuts_as : (key : Opening) (id : ℕ) (v : View) (given objects : List ℕ) → given ≡ objects → HasNumber v v.number → AreIn objects v.hands
     → Splits {S = Unit {0}} {V = View} (Ruled key) id v (cutter given v) (chunk_view given v)
-cuts_as key id v given objects all are = cuts key id v given (subst (λ (l : List ℕ). AreIn l v.hands) (sym all) are)
+cuts_as key id v given objects all own are = cuts key id v given own (subst (λ (l : List ℕ). AreIn l v.hands) (sym all) are)
 
 -- the first session can call
 pub first_calls : (key : Opening) → (b : Table) → IsBase key b → IsCaller key (first_view key)

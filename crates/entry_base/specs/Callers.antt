@@ -66,6 +66,7 @@ pub record SameCaller (v w : View) : Type 0 where
   pub opening : w.opening ≡ v.opening
   pub number : w.number ≡ v.number
   pub numbers : w.numbers ≡ v.numbers
+  pub cut : w.cut ≡ v.cut
   pub knows : (f : Fact) → Has v.facts f → Has w.facts f
 
 -- what a caller owns is as before

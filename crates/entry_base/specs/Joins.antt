@@ -28,6 +28,7 @@ pub record Joined (v u w : View) : Type 0 where
   pub pending : w.pending ≡ (both v u).pending
   pub owed : w.owed ≡ v.owed ++ u.owed
   pub fresh : w.fresh ≡ v.fresh ++ u.fresh
+  pub cut : w.cut ≡ v.cut ++ u.cut
 
 -- a session took in a chunk, which has hands alone
 pub record Absorbed (v u w : View) : Type 0 where
@@ -37,3 +38,4 @@ pub record Absorbed (v u w : View) : Type 0 where
   pub pending : w.pending ≡ v.pending
   pub owed : w.owed ≡ v.owed
   pub fresh : w.fresh ≡ v.fresh
+  pub cut : w.cut ≡ v.cut

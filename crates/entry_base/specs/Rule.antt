@@ -17,7 +17,7 @@ use Rattle.entry_base.specs.declared.view.Opening.{Opening}
 use Rattle.entry_base.specs.declared.view.View.{View}
 use Rattle.entry_base.specs.Lists.{Each}
 use Rattle.entry_base.specs.Facts.{IsKnown}
-use Rattle.entry_base.specs.Hands.{HandsKept}
+use Rattle.entry_base.specs.Hands.{HandsKept, CutsKept}
 use Rattle.entry_base.specs.Numbers.{NumbersKept}
 use Rattle.entry_base.specs.Openings.{IsBase, phase_of, sizes_in, start_of}
 use Rattle.entry_base.specs.Owns.{Owns}
@@ -49,6 +49,7 @@ pub record Kept (key : Opening) (words : List ℕ) (views : List View) : Type 0 
   pub near : IsNear (sizes_in key) words shown
   pub numbers : NumbersKept log views
   pub hands : HandsKept (sizes_in key) shown views
+  pub cuts : CutsKept views
   pub states : (b : Table) → IsBase key b → Stays key log shown words views b
 
 abbrev pub Ruled : Opening → State (Unit {0}) View → Type 0

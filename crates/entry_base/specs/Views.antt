@@ -26,6 +26,7 @@ first_view key = record {
   owed = [];
   fresh = [];
   hands = greys key.words (sizes_in key).objects;
+  cut = [];
   facts = [];
 }
 
@@ -44,14 +45,14 @@ giver n objects v = record v {
 }
 
 abbrev pub newcomer : ℕ → List ℕ → View → View
-newcomer n objects v = record v { number = n; numbers = n ∷ []; owed = []; fresh = []; hands = objects }
+newcomer n objects v = record v { number = n; numbers = n ∷ []; owed = []; fresh = []; hands = objects; cut = [] }
 
 -- a session that cut off a chunk of its hands, and the chunk, which has no number: 13 stands in no list
 abbrev pub cutter : List ℕ → View → View
-cutter objects v = record v { hands = without_all objects v.hands }
+cutter objects v = record v { hands = without_all objects v.hands; cut = objects ++ v.cut }
 
 abbrev pub chunk_view : List ℕ → View → View
-chunk_view objects v = record v { number = 13; numbers = []; owed = []; fresh = []; hands = objects }
+chunk_view objects v = record v { number = 13; numbers = []; owed = []; fresh = []; hands = objects; cut = [] }
 
 -- of two lists, element by element, the one that a test picks
 abbrev pub pick_from : {A : Type 0} → (ℕ → Bool) → ℕ → List A → List A → List A
@@ -77,6 +78,7 @@ both v u = record v {
   owed = v.owed ++ u.owed;
   fresh = v.fresh ++ u.fresh;
   hands = v.hands ++ u.hands;
+  cut = v.cut ++ u.cut;
   facts = joined_fact v u ∷ v.facts ++ u.facts;
 }
 
@@ -100,5 +102,6 @@ spent = record {
   owed = [];
   fresh = [];
   hands = [];
+  cut = [];
   facts = [];
 }

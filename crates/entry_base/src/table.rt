@@ -52,7 +52,7 @@ impl Shared {
     ghost use Rattle.word_laws.specs.Small.{AreSmall};
     ghost use Rattle.entry_word.specs.Image.{image_of, sizes_of};
     ghost use Rattle.entry_base.specs.Callers.{IsClosed};
-    ghost use Rattle.entry_base.specs.Hands.{grey};
+    ghost use Rattle.entry_base.specs.Hands.{grey, LeavesToScan};
     ghost use Rattle.entry_base.specs.Lists.{count_in};
     ghost use Rattle.entry_base.specs.Numbers.{HasNumber};
     ghost use Rattle.entry_base.specs.Openings.{start_of};
@@ -109,11 +109,13 @@ impl Shared {
     }
 
     /// Closes the table by a session that has all numbers. The image shows the table after the history that the session had
-    /// seen, which is the whole history of the phase, and every entry of a segment that is not committed has no access.
+    /// seen, which is the whole history of the phase, and every entry of a segment that is not committed has no access. What is
+    /// still to be scanned stood in the hands of the session or in a chunk (`LeavesToScan` of `specs/Hands.antt`).
     pub fn finish(self, session: Session) -> Image
         requires caller { IsOf self session }
         requires all { (n : ℕ) → n ≤ 12 → HasNumber (view session) n }
         ensures closed { IsClosed (view session).opening (view session).seen (opening_of result) }
+        ensures left { LeavesToScan (view session) (opening_of result) }
 
         // So the image is lawful.
         ensures lawful { IsLawful (image_of result) }

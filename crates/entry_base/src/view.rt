@@ -135,5 +135,7 @@ pub struct View {
     pub fresh: LinkedList<Claim>,
     /// The shaded objects whose scan is its own.
     pub hands: LinkedList<u32>,
+    /// The objects that it cut off in chunks, or that a session joined into it did.
+    pub cut: LinkedList<u32>,
     pub facts: LinkedList<Fact>,
 }

@@ -112,11 +112,11 @@ module _ (key : Opening) (words : List ℕ) (views : List View) (id : ℕ) (v : 
 
   pub kept_abort : Kept key (set words area_place word) (set views id ended) × Aborts v ended
   kept_abort =
-      let done = kept_low key words views id v ended k at (fact.Aborted ∷ []) e refl caller.own tt (λ q. refl) refl refl refl refl
+      let done = kept_low key words views id v ended k at (fact.Aborted ∷ []) e refl caller.own tt (λ q. refl) refl refl refl refl refl
       area_place word (omega arith) (λ o same. omega (arith, same)) freelist-apart-area step in (
         done.0,
         record {
-          same = record { opening = refl; number = refl; numbers = refl; knows = λ f has. inr has };
+          same = record { opening = refl; number = refl; numbers = refl; cut = refl; knows = λ f has. inr has };
           own = record { vars = refl; pending = refl; owed = refl; fresh = refl };
           hands = refl;
           extends = done.1 caller.opened;

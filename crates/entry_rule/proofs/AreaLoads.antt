@@ -60,7 +60,7 @@ module _ (key : Opening) (words : List ℕ) (views : List View) (id : ℕ) (v : 
         loads key words _ area_place done.0,
         record {
           loaded = record {
-            same = record { opening = refl; number = refl; numbers = refl; knows = λ f has. has_append (area_facts found) v.facts f has };
+            same = record { opening = refl; number = refl; numbers = refl; cut = refl; knows = λ f has. has_append (area_facts found) v.facts f has };
             own = record { vars = refl; pending = refl; owed = refl; fresh = refl };
             looks = done.1 caller.opened;
             hands = refl;

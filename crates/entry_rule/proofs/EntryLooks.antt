@@ -63,7 +63,7 @@ module _ (key : Opening) (words : List ℕ) (views : List View) (id : ℕ) (v : 
 
     kept_answer : Kept key words (set views id (answered_view v k.log e more)) × Answered v e (answered_view v k.log e more)
     kept_answer =
-        let done = kept_event key words views id v k at more e (answered_view v k.log e more) refl caller.own tt tt (λ q. refl) refl refl refl refl (λ s g. (
+        let done = kept_event key words views id v k at more e (answered_view v k.log e more) refl caller.own tt tt (λ q. refl) refl refl refl refl refl (λ s g. (
           (tt, right s g),
           record { variables = g.owns.variables; pending = g.owns.pending; owed = g.owns.owed; fresh = g.owns.fresh },
           known s g (k.log ++ e ∷ []),

@@ -96,11 +96,11 @@ module _ (key : Opening) (words : List ℕ) (views : List View) (id : ℕ) (v : 
 
   pub kept_put : Kept key (set words (entry_place z p i) (new_word p tag value)) (set views id filled) × Put v p i tag value filled
   kept_put =
-      let done = kept_entry key words views id v filled k at (fact.Cell p i tag ∷ more) e refl caller.own tt (λ q. refl) refl refl refl refl
+      let done = kept_entry key words views id v filled k at (fact.Cell p i tag ∷ more) e refl caller.own tt (λ q. refl) refl refl refl refl refl
       p i (new_word p tag value) (subst (λ o. i < limit_in (sizes_in o) p) caller.opened inside) (λ none. omega (arith, none)) (λ o m var link. cc) step in (
         done.0,
         record {
-          same = record { opening = refl; number = refl; numbers = refl; knows = λ f has. inr (has_append more v.facts f has) };
+          same = record { opening = refl; number = refl; numbers = refl; cut = refl; knows = λ f has. inr (has_append more v.facts f has) };
           rest = (refl, refl, refl);
           owed = refl;
           fresh = refl;

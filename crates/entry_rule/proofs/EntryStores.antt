@@ -125,7 +125,7 @@ module _ (key : Opening) (words : List ℕ) (views : List View) (id : ℕ) (v : 
 
     kept_value : (w : View) × Kept key (set words place (stored_word tag value)) (set views id w) × Answered v e w
     kept_value =
-        let done = kept_entry key words views id v w k at [] e refl caller.own in_phase takes refl refl refl refl External i (stored_word tag value) below
+        let done = kept_entry key words views id v w k at [] e refl caller.own in_phase takes refl refl refl refl refl External i (stored_word tag value) below
         (cell_word-open (record { id = 0; tag = tag; value = value; shown = true }) true is_tag.1 low is_tag.0) unlinked changes in
         (w, done.0, answered v k.log e [] (done.1 caller.opened))
 

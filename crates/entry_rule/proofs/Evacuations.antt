@@ -78,11 +78,11 @@ module _ (key : Opening) (words : List ℕ) (views : List View) (id : ℕ) (v : 
 
   pub kept_evacuation : Kept key (set words (entry_place z External i) (evacuation_word number)) (set views id moved) × Evacuated v i number word moved
   kept_evacuation =
-      let done = kept_entry key words views id v moved k at (fact.Placed (field.External number) word ∷ []) e refl caller.own tt (λ q. refl) refl refl refl refl
+      let done = kept_entry key words views id v moved k at (fact.Placed (field.External number) word ∷ []) e refl caller.own tt (λ q. refl) refl refl refl refl refl
       External i (evacuation_word number) (subst (λ o. i < limit_in (sizes_in o) External) caller.opened inside) (λ none. omega (arith, none)) (λ o m var link. cc) step in (
         done.0,
         record {
-          same = record { opening = refl; number = refl; numbers = refl; knows = λ f has. inr has };
+          same = record { opening = refl; number = refl; numbers = refl; cut = refl; knows = λ f has. inr has };
           rest = (refl, refl, refl, refl);
           owed = refl;
           extends = done.1 caller.opened;

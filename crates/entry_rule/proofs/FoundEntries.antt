@@ -13,7 +13,7 @@ answered_view v log e more = record v { seen = log ++ e ∷ []; facts = more ++ 
 
 pub answered : (v : View) (log : List Event) (e : Event) (more : List Fact) → Extends v e (answered_view v log e more) → Answered v e (answered_view v log e more)
 answered v log e more extends = record {
-  same = record { opening = refl; number = refl; numbers = refl; knows = λ f has. has_append more v.facts f has };
+  same = record { opening = refl; number = refl; numbers = refl; cut = refl; knows = λ f has. has_append more v.facts f has };
   own = record { vars = refl; pending = refl; owed = refl; fresh = refl };
   hands = refl;
   extends = extends;

@@ -131,12 +131,12 @@ module _ (key : Opening) (words : List ℕ) (views : List View) (id : ℕ) (v : 
 
   kept_publish : (w : View) × Kept key (set words place (stored_word tag value)) (set views id w) × Published v i w
   kept_publish =
-      let done = kept_entry key words views id v w k at [] e refl caller.own tt (λ q. refl) refl refl refl refl Trusted i (stored_word tag value) below
+      let done = kept_entry key words views id v w k at [] e refl caller.own tt (λ q. refl) refl refl refl refl refl Trusted i (stored_word tag value) below
       open_word (λ o m var is. absurd (cc)) changes in (
         w,
         done.0,
         record {
-          same = record { opening = refl; number = refl; numbers = refl; knows = λ f known. known };
+          same = record { opening = refl; number = refl; numbers = refl; cut = refl; knows = λ f known. known };
           rest = (refl, refl, refl, refl);
           pending = refl;
           extends = done.1 caller.opened;

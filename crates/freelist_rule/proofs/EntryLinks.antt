@@ -41,10 +41,10 @@ module _ (key : Opening) (words : List ℕ) (views : List View) (id : ℕ) (v : 
   linked : (now : List ℕ) → IsNear z now k.shown → StaysLinked z words now → slice_index now place ≢ no_access_word →
       Kept key now (set views id link_view) × LinkedEntry v p i link_view
   linked now near ahead usable =
-      let done = sees key words now views id v link_view k at k.shown (fact.Linked p i ∷ []) refl refl near ahead (λ o. refl) refl left in (
+      let done = sees key words now views id v link_view k at k.shown (fact.Linked p i ∷ []) refl refl refl near ahead (λ o. refl) (inr refl) refl left in (
         done.0,
         record {
-          same = record { opening = refl; number = refl; numbers = refl; knows = λ x has. inr has };
+          same = record { opening = refl; number = refl; numbers = refl; cut = refl; knows = λ x has. inr has };
           own = record { vars = refl; pending = refl; owed = refl; fresh = refl };
           hands = refl;
           looks = done.1 caller.opened;

@@ -79,7 +79,7 @@ module _ (key : Opening) (words : List ℕ) (views : List View) (id : ℕ) (v : 
 
   pub found_loaded : (log : List Event) (more : List Fact) → takes_in p log ≡ takes_in p k.log → v.opening ≡ key → FreelistLoaded v p found (loader log more)
   found_loaded log more same opened = record {
-    same = record { opening = refl; number = refl; numbers = refl; knows = λ x has. inr (has_append more v.facts x has) };
+    same = record { opening = refl; number = refl; numbers = refl; cut = refl; knows = λ x has. inr (has_append more v.facts x has) };
     own = record { vars = refl; pending = refl; owed = refl; fresh = refl };
     hands = refl;
     knows = inl refl;

@@ -83,7 +83,7 @@ module _ (key : Opening) (words : List ℕ) (views : List View) (id : ℕ) (v : 
         → Kept key words (set views id answered_view) × FreelistLoaded v p word answered_view × Extends v e answered_view
     answered step =
         let facts = fact.Freelist p word (takes_in p log) ∷ more in
-        let done = kept_event key words views id v k at facts e answered_view refl caller.own phase nothing takes refl refl refl refl
+        let done = kept_event key words views id v k at facts e answered_view refl caller.own phase nothing takes refl refl refl refl refl
         (λ s g. let is = step s g in (
           is.0,
           subst (λ t. Owns t answered_view) (sym is.1) (record { variables = g.owns.variables; pending = g.owns.pending; owed = g.owns.owed; fresh = g.owns.fresh }),
@@ -269,7 +269,7 @@ module _ (key : Opening) (words : List ℕ) (views : List View) (id : ℕ) (v : 
       let done = kept_look key words views id v k at (link_facts p head entry) (λ s g. (known_link s g, tt)) in (
         done.0,
         record {
-          same = record { opening = refl; number = refl; numbers = refl; knows = λ x has. inr has };
+          same = record { opening = refl; number = refl; numbers = refl; cut = refl; knows = λ x has. inr has };
           own = record { vars = refl; pending = refl; owed = refl; fresh = refl };
           looks = done.1 caller.opened;
           hands = refl;

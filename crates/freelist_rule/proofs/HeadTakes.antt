@@ -162,7 +162,7 @@ module _ (key : Opening) (words : List ℕ) (views : List View) (id : ℕ) (v : 
   kept_won : found ≡ word → (w : View) × Kept key (set words place new) (set views id w) × Took v p a word found w
   kept_won here =
       let below : place < 3 = freelist_place-below p in
-      let done = adds key words (set words place new) views id v won k at later (fact.Used p head ∷ []) refl refl
+      let done = adds key words (set words place new) views id v won k at later (fact.Used p head ∷ []) refl refl refl
       (IsNear-set z words k.shown place new k.near) (linked_low z words place new (omega (arith, below)))
       (λ q. ap (λ x. count_in q v.hands + x) (sym (grey_low z k.shown place new (λ o made at_list. omega (arith, at_list, below)) q)))
       e refl caller.own is.during refl (add here) in (
@@ -170,7 +170,7 @@ module _ (key : Opening) (words : List ℕ) (views : List View) (id : ℕ) (v : 
         done.0,
         record {
           won = λ found_is. record {
-            same = record { opening = refl; number = refl; numbers = refl; knows = λ x has. inr has };
+            same = record { opening = refl; number = refl; numbers = refl; cut = refl; knows = λ x has. inr has };
             rest = (refl, refl, refl, refl);
             owed = refl;
             fresh_claim = new_claim here;
@@ -202,7 +202,7 @@ module _ (key : Opening) (words : List ℕ) (views : List View) (id : ℕ) (v : 
         record {
           won = λ found_is. absurd (other found_is);
           lost = λ found_other. record {
-            same = record { opening = refl; number = refl; numbers = refl; knows = λ x has. inr has };
+            same = record { opening = refl; number = refl; numbers = refl; cut = refl; knows = λ x has. inr has };
             own = record { vars = refl; pending = refl; owed = refl; fresh = refl };
             hands = refl;
             looks = done.1 caller.opened;

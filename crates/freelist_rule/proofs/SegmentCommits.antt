@@ -169,7 +169,7 @@ module _ (words : List ℕ) (views : List View) (id : ℕ) (v : View) (k : Kept 
     won =
         let ahead = linked_low z words place new (omega (arith, freelist_place-below p)) in
         let hands = λ (o : ℕ). ap (λ n. count_in o v.hands + n) (sym (grey_by z k.shown later o (header_stays o))) in
-        let done = sees v.opening words now views id v (commit_view new) k at later (fact.Freelist p new (takes_in p k.log) ∷ []) refl refl near ahead hands refl left in
+        let done = sees v.opening words now views id v (commit_view new) k at later (fact.Freelist p new (takes_in p k.log) ∷ []) refl refl refl near ahead hands (inr refl) refl left in
         (done.0, done.1 refl)
 
   lost : found ≢ head → Kept v.opening words (set views id (commit_view found)) × Looks v (commit_view found) × (rank head < rank found)
@@ -186,7 +186,7 @@ module _ (words : List ℕ) (views : List View) (id : ℕ) (v : View) (k : Kept 
   committed : (word : ℕ) → word ≡ (if found == head then new else found) → Looks v (commit_view word) → (found ≢ head → rank head < rank found) →
       Committed v p head found (commit_view word)
   committed word is looks rises = record {
-    same = record { opening = refl; number = refl; numbers = refl; knows = λ x has. inr has };
+    same = record { opening = refl; number = refl; numbers = refl; cut = refl; knows = λ x has. inr has };
     own = record { vars = refl; pending = refl; owed = refl; fresh = refl };
     hands = refl;
     looks = looks;

@@ -25,7 +25,7 @@ module _ (key : Opening) (words : List ℕ) (views : List View) (id : ℕ) (v : 
   loads_facts place opened tells = let done = kept_look key words views id v k at more tells in (
     loads key words (set views id learner) place done.0,
     record {
-      same = record { opening = refl; number = refl; numbers = refl; knows = λ f has. has_append more v.facts f has };
+      same = record { opening = refl; number = refl; numbers = refl; cut = refl; knows = λ f has. has_append more v.facts f has };
       own = record { vars = refl; pending = refl; owed = refl; fresh = refl };
       looks = done.1 opened;
       hands = refl;

@@ -113,10 +113,10 @@ module _ (key : Opening) (words : List ℕ) (views : List View) (id : ℕ) (v : 
 
   pub kept_mark : Kept key (set words (entry_place z p i) n) (set views id marker) × Marked v p i had marker
   kept_mark =
-      let done = kept_entry key words views id v marker k at more e refl caller.own tt (λ q. refl) refl refl refl refl p i n below usable (λ o m var link. absurd (cc)) changes in (
+      let done = kept_entry key words views id v marker k at more e refl caller.own tt (λ q. refl) refl refl refl refl refl p i n below usable (λ o m var link. absurd (cc)) changes in (
         done.0,
         record {
-          same = record { opening = refl; number = refl; numbers = refl; knows = λ x has. inr (inr has) };
+          same = record { opening = refl; number = refl; numbers = refl; cut = refl; knows = λ x has. inr (inr has) };
           own = record { vars = refl; pending = refl; owed = refl; fresh = refl };
           hands = refl;
           extends = done.1 caller.opened;

@@ -203,12 +203,12 @@ module _ (key : Opening) (words : List ℕ) (views : List View) (id : ℕ) (v : 
   kept_scan : Kept key (set words place written) (set views id scanner) × Scanned v o scanner
   kept_scan =
       let hands = hands_changed z k.shown v.hands scanner.hands o written made room left_here left_there in
-      let done = adds key words (set words place written) views id v scanner k at later [] refl refl
+      let done = adds key words (set words place written) views id v scanner k at later [] refl refl refl
       (IsNear-set z words k.shown place written k.near) (linked_low z words place written (let m = made in omega arith)) hands
       e refl caller.own tt refl add in (
         done.0,
         record {
-          same = record { opening = refl; number = refl; numbers = refl; knows = λ f has. has };
+          same = record { opening = refl; number = refl; numbers = refl; cut = refl; knows = λ f has. has };
           own = record { vars = refl; pending = refl; owed = refl; fresh = refl };
           extends = done.1 caller.opened;
           hands = refl;

@@ -128,14 +128,14 @@ module _ (key : Opening) (words : List ℕ) (views : List View) (id : ℕ) (v : 
       tells = ((tt, (made, ap (λ x. x % 2) (header_here k.shown o written room) ∙ odd)), tt);
     }
 
-  kept_shade : v.opening ≡ key → Kept key (set words place written) (set views id shader) × Shaded v o found shader
-  kept_shade opened =
+  kept_shade : HasNumber v v.number → v.opening ≡ key → Kept key (set words place written) (set views id shader) × Shaded v o found shader
+  kept_shade own opened =
       let hands = hands_changed z k.shown v.hands shader.hands o written made room (up (after k.base k.log) (given key words views id v k at k.base k.is_base)) (λ m ne. up_there m o found v.hands ne) in
-      let done = sees key words (set words place written) views id v shader k at later (fact.Shaded o ∷ []) refl refl
-      (IsNear-set z words k.shown place written k.near) (linked_low z words place written (omega (arith, made))) hands refl left in (
+      let done = sees key words (set words place written) views id v shader k at later (fact.Shaded o ∷ []) refl refl refl
+      (IsNear-set z words k.shown place written k.near) (linked_low z words place written (omega (arith, made))) hands (inl own) refl left in (
         done.0,
         record {
-          same = record { opening = refl; number = refl; numbers = refl; knows = λ f has. inr has };
+          same = record { opening = refl; number = refl; numbers = refl; cut = refl; knows = λ f has. inr has };
           own = record { vars = refl; pending = refl; owed = refl; fresh = refl };
           looks = done.1 opened;
           hands = refl;
@@ -149,7 +149,7 @@ shades_traced : (key : Opening) (slots id : ℕ) (me : Me (Unit {0}) View) (o : 
 shades_traced key slots id me o caller made traced = keeps_by key slots id me (header_place o) (λ n. bit_or n 1) (λ found w. Shaded me.0 o found w) (λ words views k at.
     let low : o < (sizes_in key).objects = subst (λ x. o < (sizes_in x).objects) caller.opened made in
     let known = (λ (s : Table) (g : Given key k.log k.shown words me.0 s). (each_has _ me.0.facts (fact.Traced o) g.known traced).0) in
-    let done = kept_shade key words views id me.0 o k at low known caller.opened in
+    let done = kept_shade key words views id me.0 o k at low known caller.own caller.opened in
     (shader key words views id me.0 o k at low known, done.0, done.1))
 
 -- its object is within the limit, so the shader still calls
@@ -168,7 +168,7 @@ shades_held key slots id me o caller mutator held in_cycle = keeps_by key slots 
     let made = held_within_limit key me.0 held.0 o caller held.1 in
     let known = (λ (s : Table) (g : Given key k.log k.shown words me.0 s).
     by_cycle s (g.owns.variables me.0.number held.0 caller.own mutator held.1.0) g.sound s.cycle refl (g.phase ∙ (ap phase_of (sym caller.opened) ∙ in_cycle))) in
-    let done = kept_shade key words views id me.0 o k at made known caller.opened in
+    let done = kept_shade key words views id me.0 o k at made known caller.own caller.opened in
     (shader key words views id me.0 o k at made known, done.0, done.1))
   where
     word_object : (x : Option ℕ) → o + 1 ≡ object_word x → x ≡ Some o

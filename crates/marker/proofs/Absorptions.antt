@@ -43,7 +43,7 @@ quiet_since v u w a = none_by v.numbers a.together.seen.0.0 (λ n has. events_si
 
 pub called_absorbed : (v u w : View) → HasNumber v v.number → Absorbed v u w → Called v [] w
 called_absorbed v u w own a = record {
-  same = record { opening = a.together.opening; number = a.together.number; numbers = a.numbers; knows = λ f has. a.together.knows f (inl has) };
+  same = record { opening = a.together.opening; number = a.together.number; numbers = a.numbers; cut = a.cut; knows = λ f has. a.together.knows f (inl has) };
   grown = a.together.seen.0.0;
   seen = a.together.seen.0.1;
   mine = events_since v.number v.seen a.together.seen.0.0 w.seen a.together.seen.0.1 (a.together.mine v.number own);

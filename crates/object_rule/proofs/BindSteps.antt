@@ -81,14 +81,14 @@ module _ (key : Opening) (v : View) (f : Field) (w : ℕ) (pending : ℕ → Lis
       }
 
       kept_bound : Kept key (set words (field_place f) w) (set views id bound) × (v.opening ≡ key → Extends v e bound)
-      kept_bound = kept_low key words views id v bound k at [] e refl caller.own tt (λ p. refl) refl refl refl refl (field_place f) w
+      kept_bound = kept_low key words views id v bound k at [] e refl caller.own tt (λ p. refl) refl refl refl refl refl (field_place f) w
           (place_below key k.log k.shown words v f caller mutator held _ (given key words views id v k at k.base k.is_base))
           (λ o. header-apart-field o f) (λ p same. omega (arith, same, freelist_place-below p, field_place-from f)) change
 
     -- or it holds a word
     kept_taken : found ≢ 0 → Kept key words (set views id bound) × (v.opening ≡ key → Extends v e bound)
     kept_taken some_word = kept_event key words views id v k at [] e bound refl caller.own tt
-        (found, ap (λ (b : Bool). if b then reply.Ok else reply.Taken found) (ne_eqb found 0 some_word)) (λ p. refl) refl refl refl refl
+        (found, ap (λ (b : Bool). if b then reply.Ok else reply.Taken found) (ne_eqb found 0 some_word)) (λ p. refl) refl refl refl refl refl
         (λ s g. (legal s g, owns s g, tt))
 
     found_small : found < 2 ^ 32

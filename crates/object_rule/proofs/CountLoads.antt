@@ -41,7 +41,7 @@ module _ (key : Opening) (words : List ℕ) (views : List View) (id : ℕ) (v : 
   count_loaded seen =
       let g = given key words views id v k at k.base k.is_base in
       let is = count_word _ g in record {
-        same = record { opening = refl; number = refl; numbers = refl; knows = λ f has. inr has };
+        same = record { opening = refl; number = refl; numbers = refl; cut = refl; knows = λ f has. inr has };
         own = record { vars = refl; pending = refl; owed = refl; fresh = refl };
         hands = refl;
         knows = inl refl;
@@ -74,7 +74,7 @@ module _ (key : Opening) (words : List ℕ) (views : List View) (id : ℕ) (v : 
 
     kept_full : (w : View) × Kept key words (set views id w) × CountForNew v var found w
     kept_full =
-        let done = kept_event key words views id v k at (fact.Count found ∷ []) e (counter (k.log ++ e ∷ [])) refl caller.own tt refl (λ p. refl) refl refl refl refl
+        let done = kept_event key words views id v k at (fact.Count found ∷ []) e (counter (k.log ++ e ∷ [])) refl caller.own tt refl (λ p. refl) refl refl refl refl refl
         (λ s g. (
           legal s g,
           subst (λ t. Owns t (counter (k.log ++ e ∷ []))) (sym (stays s g))

@@ -32,7 +32,7 @@ binds key slots id me number word caller mutator held filled fits =
           (record { variables = g.owns.variables; pending = g.owns.pending; owed = g.owns.owed; fresh = left })
           (record { variables = g.owns.variables; pending = g.owns.pending; owed = g.owns.owed; fresh = left });
     }) slots id me.1 (λ found w. Bound v (field.External number) word found w) (λ n es small extends. record {
-      same = record { opening = refl; number = refl; numbers = refl; knows = λ x has. has };
+      same = record { opening = refl; number = refl; numbers = refl; cut = refl; knows = λ x has. has };
       rest = (refl, refl, refl, refl);
       fresh = refl;
       extends = extends;

@@ -51,7 +51,7 @@ module _ (key : Opening) (words : List ℕ) (views : List View) (id : ℕ) (v : 
   module _ (tells : (s : Table) → Given key k.log k.shown words v s → found ≡ s.words f → Each (IsKnown (sizes_in key) (k.log ++ e ∷ []) s k.shown words) more) where
     kept_name : Kept key words (set views id named) × Named v f found named
     kept_name =
-        let done = kept_event key words views id v k at more e named refl caller.own tt tt (λ p. refl) refl refl refl refl (λ s g.
+        let done = kept_event key words views id v k at more e named refl caller.own tt tt (λ p. refl) refl refl refl refl refl (λ s g.
         let is = word_is key k.log k.shown words v f caller mutator held s g k.near in (
           (object_held s v g.owns caller.own mutator (object_of f) held, ap reply.Word is),
           record { variables = g.owns.variables; pending = g.owns.pending; owed = g.owns.owed; fresh = g.owns.fresh },
@@ -60,7 +60,7 @@ module _ (key : Opening) (words : List ℕ) (views : List View) (id : ℕ) (v : 
           done.0,
           record {
             answered = record {
-              same = record { opening = refl; number = refl; numbers = refl; knows = λ x has. has_append more v.facts x has };
+              same = record { opening = refl; number = refl; numbers = refl; cut = refl; knows = λ x has. has_append more v.facts x has };
               own = record { vars = refl; pending = refl; owed = refl; fresh = refl };
               hands = refl;
               extends = done.1 caller.opened;

@@ -53,12 +53,12 @@ module _ (key : Opening) (words : List ℕ) (views : List View) (id : ℕ) (v : 
 
   kept_forged : Kept key (set words (field_place f) word) (set views id forged) × Forged v number word forged
   kept_forged =
-      let done = kept_low key words views id v forged k at [] e refl caller.own tt (λ p. refl) refl refl refl refl (field_place f) word
+      let done = kept_low key words views id v forged k at [] e refl caller.own tt (λ p. refl) refl refl refl refl refl (field_place f) word
       (place_below key k.log k.shown words v f caller mutator held _ (given key words views id v k at k.base k.is_base))
       (λ o. header-apart-field o f) (λ p same. omega (arith, same, freelist_place-below p, field_place-from f)) change in (
         done.0,
         record {
-          same = record { opening = refl; number = refl; numbers = refl; knows = λ x has. has };
+          same = record { opening = refl; number = refl; numbers = refl; cut = refl; knows = λ x has. has };
           own = record { vars = refl; pending = refl; owed = refl; fresh = refl };
           hands = refl;
           extends = done.1 caller.opened;

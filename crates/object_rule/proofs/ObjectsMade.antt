@@ -71,12 +71,12 @@ module _ (key : Opening) (words : List ℕ) (views : List View) (id : ℕ) (v : 
 
   kept_new : (w : View) × Kept key (set words count_place (n + 1)) (set views id w) × MadeObject v var n w
   kept_new =
-      let done = kept_low key words views id v maker k at [] e refl caller.own tt (λ p. refl) refl refl refl refl count_place (n + 1)
+      let done = kept_low key words views id v maker k at [] e refl caller.own tt (λ p. refl) refl refl refl refl refl count_place (n + 1)
       (omega arith) (λ o same. omega (arith, same)) (λ p same. omega (arith, same, freelist_place-below p)) changes in (
         maker,
         done.0,
         record {
-          same = record { opening = refl; number = refl; numbers = refl; knows = λ f has. has };
+          same = record { opening = refl; number = refl; numbers = refl; cut = refl; knows = λ f has. has };
           rest = (refl, refl, refl, refl);
           vars = refl;
           extends = done.1 caller.opened;

@@ -78,11 +78,11 @@ module _ (key : Opening) (words : List ℕ) (views : List View) (id : ℕ) (v : 
 
     kept_link : (w : View) × Kept key (set words (spot_place spot) word) (set views id w) × LinkedTo v spot target w
     kept_link =
-        let done = kept_low key words views id v linker k at [] e refl caller.own tt (λ p. refl) refl refl refl refl (spot_place spot) word low no_header no_list changes in (
+        let done = kept_low key words views id v linker k at [] e refl caller.own tt (λ p. refl) refl refl refl refl refl (spot_place spot) word low no_header no_list changes in (
           linker,
           done.0,
           record {
-            same = record { opening = refl; number = refl; numbers = refl; knows = λ f has. has };
+            same = record { opening = refl; number = refl; numbers = refl; cut = refl; knows = λ f has. has };
             own = record { vars = refl; pending = refl; owed = refl; fresh = refl };
             hands = refl;
             extends = done.1 caller.opened;

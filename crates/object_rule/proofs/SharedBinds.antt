@@ -69,7 +69,7 @@ binds_shared key slots id me o word caller mutator held settled marked fits =
     (λ log shown words s g. shared_fits key log shown words me.0 s g caller o word settled marked)
     slots id me.1 (λ found w. BoundShared me.0 o word found w) (λ n es small extends. record {
       answered = record {
-        same = record { opening = refl; number = refl; numbers = refl; knows = λ x has. has };
+        same = record { opening = refl; number = refl; numbers = refl; cut = refl; knows = λ x has. has };
         own = record { vars = refl; pending = refl; owed = refl; fresh = refl };
         hands = refl;
         extends = extends;

@@ -105,7 +105,7 @@ binds_trusted key slots id me o word tag value caller mutator held filled cell f
     binds_field key me.0 (field.Trusted o) word (pending me.0 o word tag value) (fresh me.0 o word tag value) caller mutator held fits
     (λ log shown words s g. trusted_fits me.0 o word tag value key log shown words s g caller mutator filled cell)
     slots id me.1 (λ found w. BoundTrusted me.0 o word tag value found w) (λ n es small extends. record {
-      same = record { opening = refl; number = refl; numbers = refl; knows = λ x has. has };
+      same = record { opening = refl; number = refl; numbers = refl; cut = refl; knows = λ x has. has };
       rest = (refl, refl, refl);
       pending = refl;
       fresh = refl;

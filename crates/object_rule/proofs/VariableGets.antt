@@ -58,7 +58,7 @@ module _ (key : Opening) (words : List ℕ) (views : List View) (id : ℕ) (v : 
 
   kept_get : Kept key words (set views id getter) × Got v into spot found getter
   kept_get =
-      let done = kept_event key words views id v k at [] e getter refl caller.own tt tt (λ p. refl) refl refl refl refl (λ s g.
+      let done = kept_event key words views id v k at [] e getter refl caller.own tt tt (λ p. refl) refl refl refl refl refl (λ s g.
       let is = shown s g in (
         ((mutator, few, is.mine), ap got_reply is.read ∙ reply_of (at_spot s spot)),
         owns_variable s v into few (at_spot s spot) s.count s.cycle found (k.log ++ e ∷ [])
@@ -67,7 +67,7 @@ module _ (key : Opening) (words : List ℕ) (views : List View) (id : ℕ) (v : 
       )) in (
         done.0,
         record {
-          variable = record { same = record { opening = refl; number = refl; numbers = refl; knows = λ f has. has }; rest = (refl, refl, refl, refl); vars = refl };
+          variable = record { same = record { opening = refl; number = refl; numbers = refl; cut = refl; knows = λ f has. has }; rest = (refl, refl, refl, refl); vars = refl };
           extends = done.1 caller.opened;
           low = low;
         },

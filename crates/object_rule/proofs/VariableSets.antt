@@ -35,14 +35,14 @@ module _ (key : Opening) (words : List ℕ) (views : List View) (id : ℕ) (v : 
 
   kept_drop : Kept key words (set views id dropper) × Dropped v var dropper
   kept_drop =
-      let done = kept_event key words views id v k at [] e dropper refl caller.own tt tt (λ p. refl) refl refl refl refl (λ s g. (
+      let done = kept_event key words views id v k at [] e dropper refl caller.own tt tt (λ p. refl) refl refl refl refl refl (λ s g. (
         ((mutator, few), refl),
         owns_variable s v var few None s.count s.cycle 0 (k.log ++ e ∷ []) (cleared v.vars (16 * v.number + var)) g.owns,
         tt,
       )) in (
         done.0,
         record {
-          variable = record { same = record { opening = refl; number = refl; numbers = refl; knows = λ f has. has }; rest = (refl, refl, refl, refl); vars = refl };
+          variable = record { same = record { opening = refl; number = refl; numbers = refl; cut = refl; knows = λ f has. has }; rest = (refl, refl, refl, refl); vars = refl };
           extends = done.1 caller.opened;
         },
       )

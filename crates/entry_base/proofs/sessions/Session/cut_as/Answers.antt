@@ -10,7 +10,7 @@ pub split_seat-seat-requires : goal.split_seat-seat-requires
 split_seat-seat-requires g c =
     let r = c.requires in
     let sized = c.args.shared.now.sized in
-    (r.caller.0, omega arith, cuts_as (opening_of c.args.shared.now.table.shared.key) c.args.self.now.seat.id c.args.self.now.seat.me.0 g.N.Giving.owed c.args.objects.items r.picked r.objects)
+    (r.caller.0, omega arith, cuts_as (opening_of c.args.shared.now.table.shared.key) c.args.self.now.seat.id c.args.self.now.seat.me.0 g.N.Giving.owed c.args.objects.items r.picked r.caller.1.own r.objects)
 
 pub invariant_of-self : goal.invariant_of-self
 invariant_of-self g c =

@@ -8,7 +8,7 @@ pub split_seat-seat-requires : goal.split_seat-seat-requires
 split_seat-seat-requires g c =
     let r = c.requires in
     let sized = c.args.shared.now.sized in
-    (r.caller.0, omega arith, splits_as (opening_of c.args.shared.now.table.shared.key) c.args.self.now.seat.id c.args.self.now.seat.me.0 g.N.Giving.number c.args.number g.N.Giving.owed c.args.owed.now r.picked.0 r.picked.1 r.number.0 r.owed)
+    (r.caller.0, omega arith, splits_as (opening_of c.args.shared.now.table.shared.key) c.args.self.now.seat.id c.args.self.now.seat.me.0 g.N.Giving.number c.args.number g.N.Giving.owed c.args.owed.now r.picked.0 r.picked.1 r.caller.1.own r.number.0 r.number.1 r.owed)
 
 pub invariant_of-self : goal.invariant_of-self
 invariant_of-self g c =

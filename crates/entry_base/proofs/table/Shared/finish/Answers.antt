@@ -6,6 +6,7 @@ use Rattle.entry_base.specs.Sessions.{view}
 use Rattle.entry_base.specs.Openings.{opening_of, sizes_in}
 use Rattle.entry_base.specs.Callers.{IsClosed}
 use Rattle.entry_base.specs.Closing.{IsTableClosed}
+use Rattle.entry_base.specs.Hands.{LeavesToScan}
 use Rattle.entry_base.proofs.LastImage.{Last, last_of, last_long, read_more, read_all, ends_opened}
 use Rattle.entry_base.proofs.table.Shared.finish.Goals as goal
 
@@ -24,7 +25,8 @@ returns c =
     let read : c.loop-i.words.items ≡ slots_items c.close_with-closed.result.words = read_all (slots_items c.close_with-closed.result.words) c.loop-i.words.items _ c.loop-i.i c.loop-i.invariant
     (let t = c.loop-i-test.false in let n = c.len-i-end.ensures in omega arith) (last_long key _ _ l ∙ (sym sized ∙ sym roomy.words)) in
     let shaped : sizes_in (opening_of c.args.self.room) ≡ sizes_in key = ap sizes_in roomy.opened in
-    let closed : IsClosed (view c.args.session).opening (view c.args.session).seen (opening_of (record c.args.self.room { words = with_items c.loop-i.words c.close_table.new.words; vars = with_items c.args.self.room.vars c.copy_vars.new.to; pending = with_items c.args.self.room.pending c.copy_pending.new.to })) = ends_opened key (slots_items c.close_with-closed.result.words) c.close_table.new.words (view c.args.session) l c.requires.caller.1.opened c.requires.all tied.many tied.eight
+    let image = opening_of (record c.args.self.room { words = with_items c.loop-i.words c.close_table.new.words; vars = with_items c.args.self.room.vars c.copy_vars.new.to; pending = with_items c.args.self.room.pending c.copy_pending.new.to }) in
+    let ends : IsClosed (view c.args.session).opening (view c.args.session).seen image × LeavesToScan (view c.args.session) image = ends_opened key (slots_items c.close_with-closed.result.words) c.close_table.new.words (view c.args.session) l c.requires.caller.1.opened c.requires.all tied.many tied.eight
     (subst (λ z. IsTableClosed z (slots_items c.close_with-closed.result.words) c.close_table.new.words) shaped
     (subst (λ ws. IsTableClosed (sizes_in (opening_of c.args.self.room)) ws c.close_table.new.words) (c.as_mut_slice.ensures.value ∙ read) c.close_table.ensures))
     _ (ap (λ k. k.shape) roomy.opened)
@@ -32,6 +34,7 @@ returns c =
     (with_items_is c.args.self.room.vars c.copy_vars.new.to (let a = ap length (c.copy_vars.ensures ∙ tied.vars) in let b = tied.many in let d = roomy.vars in omega arith) ∙ (c.copy_vars.ensures ∙ tied.vars))
     (with_items_is c.args.self.room.pending c.copy_pending.new.to (let a = ap length (c.copy_pending.ensures ∙ tied.pending) in let b = tied.eight in let d = roomy.pending in omega arith) ∙ (c.copy_pending.ensures ∙ tied.pending)) in
     record {
-      closed = closed;
-      lawful = (closed.openable.base, closed.openable.is_base.sound, closed.openable.is_base.shows, closed.openable.is_base.covered);
+      closed = ends.0;
+      left = ends.1;
+      lawful = (ends.0.openable.base, ends.0.openable.is_base.sound, ends.0.openable.is_base.shows, ends.0.openable.is_base.covered);
     }
