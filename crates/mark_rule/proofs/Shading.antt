@@ -23,6 +23,7 @@ use Rattle.entry_base.specs.declared.view.View.{View}
 use Rattle.entry_base.specs.Callers.{AreVariables, ArePublishable, AreWithin, IsCaller}
 use Rattle.entry_base.specs.Facts.{TableKnows}
 use Rattle.entry_base.specs.Lists.{Has, count_in}
+use Rattle.entry_base.specs.Numbers.{HasNumber}
 use Rattle.entry_base.specs.Openings.{phase_of, sizes_in}
 use Rattle.entry_base.specs.Owns.{IsHeld}
 use Rattle.entry_base.specs.Rule.{Kept}

@@ -1,5 +1,7 @@
 -- What a variable of a view's own number holds, in the view and in the table; and after one of them is set in both.
-use Rattle.std.proofs.Common.{◌≡◌, ℕ, ◌+◌, ◌*◌, ◌<◌, ◌≤◌, List, Option, Some, None, slice_index, slice_set, get_or-set_other, sym, ap, subst, ◌∙◌, inl, inr, arith}
+use Rattle.std.proofs.Common.{◌≡◌, ℕ, ◌+◌, ◌*◌, ◌<◌, ◌≤◌, List, length, Option, Some, None, IfSome, slice_index, slice_set, get_or-set_other, sym, ap, subst, ◌∙◌, inl, inr, arith}
+use Rattle.std.proofs.lemmas.Bool.{cases_lt}
+use Rattle.std.proofs.lemmas.List.{get_or_past}
 use Rattle.plain_table.specs.declared.events.Event.{Event}
 use Rattle.plain_table.specs.Cycle.{Cycle}
 use Rattle.plain_table.specs.Places.{put_pair}
@@ -18,12 +20,24 @@ use Rattle.entry_base.specs.Owns.{Owns, HoldsIn, IsHeld}
 use Rattle.entry_base.specs.Tied.{Parts, IsTied}
 use Rattle.entry_base.proofs.OneByOne.{caller_stays, variables_set}
 use Rattle.entry_base.proofs.TiedParts.{tied_variable}
-use Rattle.object_rule.specs.Objects.{SetVariable}
+use Rattle.object_rule.specs.Objects.{IsTarget, SetVariable}
 
 -- the object of a word
 pub object_word-is : (found : Option ℕ) (o : ℕ) → object_word found ≡ o + 1 → found ≡ Some o
 object_word-is None o is = absurd (omega (arith, is))
 object_word-is (Some q) o is = ap Some (omega (arith, is))
+
+-- where a variable of a view's number holds an object, the number is a mutator's, since no other has variables
+pub mutator-held : (v : View) (o : ℕ) → length v.vars ≡ 128 → IsHeld v o → v.number < 8
+mutator-held v o many (var, few, is) = elim (cases_lt v.number 8) [
+  | inl low ↦ low
+  | inr past ↦ absurd (let none : slice_index v.vars (16 * v.number + var) ≡ 0 = get_or_past v.vars (16 * v.number + var) 0 (omega (arith, many, past)) in omega (arith, none, is))
+]
+
+-- and so where a link has a target
+pub mutator-target : (v : View) (target : Option ℕ) (word : ℕ) → length v.vars ≡ 128 → IsTarget v target word → IfSome target (λ var. v.number < 8)
+mutator-target v None word many aims = tt
+mutator-target v (Some var) word many (q, holds, is) = mutator-held v q many (var, holds)
 
 -- the word of an object that is made is within the limit
 pub object_word-low : (s : Table) (z : Sizes) (x : Option ℕ) → s.sizes ≡ z → IsSound s → ((q : ℕ) → x ≡ Some q → q < s.count) → object_word x ≤ z.objects

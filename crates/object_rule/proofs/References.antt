@@ -1,5 +1,5 @@
 -- A link of a reference or a global keeps the rule: in a cycle the object that a reference comes to hold is shaded.
-use Rattle.std.proofs.Common.{◌≡◌, ◌≢◌, ◌⊎◌, ℕ, ◌+◌, ◌*◌, ◌%◌, ◌<◌, List, [], ◌∷◌, ◌++◌, Option, Some, None, IfSome, set, get_or-set_other, refl, sym, ap, subst, ◌∙◌, inl, inr, arith}
+use Rattle.std.proofs.Common.{◌≡◌, ◌≢◌, ◌⊎◌, ℕ, ◌+◌, ◌*◌, ◌%◌, ◌<◌, List, [], ◌∷◌, ◌++◌, length, Option, Some, None, IfSome, set, get_or-set_other, refl, sym, ap, subst, ◌∙◌, inl, inr, arith}
 use mathlib.Core.Option.{some}
 use lib.ListN.{get_elem?}
 use Rattle.atomic_table.specs.Table.{Me}
@@ -34,7 +34,7 @@ use Rattle.entry_base.proofs.OneByOne.{held_within_limit}
 use Rattle.entry_base.proofs.Steps.{Given, Keeps, keeps_by}
 use Rattle.entry_base.proofs.Sums.{each_has}
 use Rattle.object_rule.specs.Objects.{IsTarget, IsClearTarget, LinkedTo}
-use Rattle.object_rule.proofs.Held.{object_held, object_made, variable_held}
+use Rattle.object_rule.proofs.Held.{object_held, object_made, variable_held, mutator-target}
 
 -- what a link of the spot has to find in a sound table
 record CanLink (s : Table) (b : ℕ) (spot : Spot) (x : Option ℕ) (later : List ℕ) : Type 0 where
@@ -48,17 +48,17 @@ owns_linked s v (Global g) x seen owns = record { variables = owns.variables; pe
 owns_linked s v (Ref o k) x seen owns = record { variables = owns.variables; pending = owns.pending; owed = owns.owed; fresh = owns.fresh }
 
 module _ (key : Opening) (words : List ℕ) (views : List View) (id : ℕ) (v : View) (k : Kept key words views) (at : get_elem? views id ≡ some v)
-    (spot : Spot) (target : Option ℕ) (word : ℕ) (caller : IsCaller key v) (mutator : v.number < 8) (aims : IsTarget v target word) where
+    (spot : Spot) (target : Option ℕ) (word : ℕ) (caller : IsCaller key v) (mutator : IfSome target (λ var. v.number < 8)) (aims : IsTarget v target word) where
   abbrev e : Event
   e = event_of v (Link spot target) reply.Ok
 
   abbrev linker : View
   linker = record v { seen = k.log ++ e ∷ [] }
 
-  target_is : (s : Table) → Given key k.log k.shown words v s → (t : Option ℕ) → IsTarget v t word → (object_word (object_in s v.number t) ≡ word) × IsFull s v.number t
-  target_is s g None aim = (sym aim, tt)
-  target_is s g (Some var) (q, holds, is) =
-      let held = variable_held s v g.owns caller.own mutator var q holds in
+  target_is : (s : Table) → Given key k.log k.shown words v s → (t : Option ℕ) → IfSome t (λ var. v.number < 8) → IsTarget v t word → (object_word (object_in s v.number t) ≡ word) × IsFull s v.number t
+  target_is s g None any aim = (sym aim, tt)
+  target_is s g (Some var) low (q, holds, is) =
+      let held = variable_held s v g.owns caller.own low var q holds in
       (ap object_word held ∙ sym is, (holds.0, IsSome-some (s.vars v.number var) q held))
 
   module _ (low : spot_place spot < 32 + 8 * (sizes_in key).objects) (no_header : (o : ℕ) → header_place o ≢ spot_place spot) (no_list : (p : Space) → freelist_place p ≢ spot_place spot)
@@ -66,7 +66,7 @@ module _ (key : Opening) (words : List ℕ) (views : List View) (id : ℕ) (v : 
     changes : (s : Table) → Given key k.log k.shown words v s → LowChanges (sizes_in key) k.log e k.shown words (spot_place spot) word linker [] s
     changes s g =
         let is = can s g in
-        let aim = target_is s g target aims in
+        let aim = target_is s g target mutator aims in
         record {
           legal = ((is.mine, aim.1), refl);
           shows = subst (λ x. Shows (set k.shown (spot_place spot) x) (next s e)) aim.0
@@ -120,19 +120,21 @@ module _ (key : Opening) (words : List ℕ) (views : List View) (v : View) (k : 
         | inr r ↦ inl r.1
       ]
 
-pub links_reference : (key : Opening) (slots id : ℕ) (me : Me (Unit {0}) View) (o k : ℕ) (target : Option ℕ) (word : ℕ) → IsCaller key me.0 → me.0.number < 8 → IsHeld me.0 o → k < 4 → IsTarget me.0 target word → IsClearTarget me.0 word → Keeps key slots id me (reference_place o k) (λ x. word) (λ found w. LinkedTo me.0 (Ref o k) target w)
-links_reference key slots id me o n target word caller mutator held few aims clear =
+pub links_reference : (key : Opening) (slots id : ℕ) (me : Me (Unit {0}) View) (o k : ℕ) (target : Option ℕ) (word : ℕ) → IsCaller key me.0 → me.0.number < 8 → length me.0.vars ≡ 128 → IsHeld me.0 o → k < 4 → IsTarget me.0 target word → IsClearTarget me.0 word → Keeps key slots id me (reference_place o k) (λ x. word) (λ found w. LinkedTo me.0 (Ref o k) target w)
+links_reference key slots id me o n target word caller mutator many held few aims clear =
     let made = held_within_limit key me.0 held.0 o caller held.1 in
+    let low = mutator-target me.0 target word many aims in
     keeps_by key slots id me (reference_place o n) (λ x. word) (λ found w. LinkedTo me.0 (Ref o n) target w) (λ words views k at.
-    kept_link key words views id me.0 k at (Ref o n) target word caller mutator aims (omega (arith, made, few)) (λ q. header-apart-reference q o n few)
+    kept_link key words views id me.0 k at (Ref o n) target word caller low aims (omega (arith, made, few)) (λ q. header-apart-reference q o n few)
     (λ p same. omega (arith, same, freelist_place-below p))
     (λ s g. can_link_reference key words views me.0 k o n target word caller mutator held few clear s g
-    (target_is key words views id me.0 k at (Ref o n) target word caller mutator aims s g target aims).0))
+    (target_is key words views id me.0 k at (Ref o n) target word caller low aims s g target low aims).0))
 
-pub links_global : (key : Opening) (slots id : ℕ) (me : Me (Unit {0}) View) (g : ℕ) (target : Option ℕ) (word : ℕ) → IsCaller key me.0 → me.0.number < 8 → g < 16 → IsTarget me.0 target word → Keeps key slots id me (global_place g) (λ x. word) (λ found w. LinkedTo me.0 (Global g) target w)
-links_global key slots id me n target word caller mutator few aims =
+pub links_global : (key : Opening) (slots id : ℕ) (me : Me (Unit {0}) View) (g : ℕ) (target : Option ℕ) (word : ℕ) → IsCaller key me.0 → length me.0.vars ≡ 128 → g < 16 → IsTarget me.0 target word → Keeps key slots id me (global_place g) (λ x. word) (λ found w. LinkedTo me.0 (Global g) target w)
+links_global key slots id me n target word caller many few aims =
+    let low = mutator-target me.0 target word many aims in
     keeps_by key slots id me (global_place n) (λ x. word) (λ found w. LinkedTo me.0 (Global n) target w) (λ words views k at.
-    kept_link key words views id me.0 k at (Global n) target word caller mutator aims (omega (arith, few)) (λ o same. omega (arith, same, few))
+    kept_link key words views id me.0 k at (Global n) target word caller low aims (omega (arith, few)) (λ o same. omega (arith, same, few))
     (λ p same. omega (arith, same, freelist_place-below p))
     (λ s g. record {
       mine = few;

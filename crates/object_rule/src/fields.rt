@@ -20,7 +20,6 @@ use std::marker::Brand;
 
 fn name_external_as<N: Learning>(shared: &Shared, s: &mut Session, number: u32) -> u64
     requires caller { IsOf shared.now s.old }
-    requires mutator { (view s.old).number < 8 }
     requires held { IsHeld (view s.old) (object_of (field.External number)) }
     requires picked { (found : ℕ) (v w : Known) → N.learns found v w ↔ Named v (field.External number) found w }
     ensures caller { IsOf shared.now s.new }
@@ -35,7 +34,6 @@ fn name_external_as<N: Learning>(shared: &Shared, s: &mut Session, number: u32) 
 /// Names an external field, by its number, of an object that a variable holds. The answer is its word.
 pub fn name_external(shared: &Shared, s: &mut Session, number: u32) -> u64
     requires caller { IsOf shared.now s.old }
-    requires mutator { (view s.old).number < 8 }
     requires held { IsHeld (view s.old) (object_of (field.External number)) }
     ensures caller { IsOf shared.now s.new }
     ensures learned { Named (view s.old) (field.External number) result (view s.new) }
@@ -45,7 +43,6 @@ pub fn name_external(shared: &Shared, s: &mut Session, number: u32) -> u64
 
 fn name_trusted_as<N: Learning>(shared: &Shared, s: &mut Session, object: u32) -> u64
     requires caller { IsOf shared.now s.old }
-    requires mutator { (view s.old).number < 8 }
     requires held { IsHeld (view s.old) object }
     requires picked { (found : ℕ) (v w : Known) → N.learns found v w ↔ NamedTrusted v object found w }
     ensures caller { IsOf shared.now s.new }
@@ -60,7 +57,6 @@ fn name_trusted_as<N: Learning>(shared: &Shared, s: &mut Session, object: u32) -
 /// Names the trusted field of an object that a variable holds. The answer is its word.
 pub fn name_trusted(shared: &Shared, s: &mut Session, object: u32) -> u64
     requires caller { IsOf shared.now s.old }
-    requires mutator { (view s.old).number < 8 }
     requires held { IsHeld (view s.old) object }
     ensures caller { IsOf shared.now s.new }
     ensures learned { NamedTrusted (view s.old) object result (view s.new) }
@@ -70,7 +66,6 @@ pub fn name_trusted(shared: &Shared, s: &mut Session, object: u32) -> u64
 
 fn bind_external_as<N: Learning>(shared: &Shared, s: &mut Session, number: u32, word: u32) -> u64
     requires caller { IsOf shared.now s.old }
-    requires mutator { (view s.old).number < 8 }
     requires held { IsHeld (view s.old) (object_of (field.External number)) }
     requires filled { Has (view s.old).fresh (claim_of (view s.old) External (index_of word)) }
     requires picked { (found : ℕ) (v w : Known) → N.learns found v w ↔ Bound v (field.External number) word found w }
@@ -89,7 +84,6 @@ fn bind_external_as<N: Learning>(shared: &Shared, s: &mut Session, number: u32, 
 /// field is 0. The answer is the word that was found.
 pub fn bind_external(shared: &Shared, s: &mut Session, number: u32, word: u32) -> u64
     requires caller { IsOf shared.now s.old }
-    requires mutator { (view s.old).number < 8 }
     requires held { IsHeld (view s.old) (object_of (field.External number)) }
     requires filled { Has (view s.old).fresh (claim_of (view s.old) External (index_of word)) }
     ensures caller { IsOf shared.now s.new }
@@ -107,7 +101,6 @@ fn bind_trusted_as<N: Learning>(
     value: u64,
 ) -> u64
     requires caller { IsOf shared.now s.old }
-    requires mutator { (view s.old).number < 8 }
     requires held { IsHeld (view s.old) object }
     requires filled { Has (view s.old).fresh (claim_of (view s.old) Trusted (index_of word)) }
     requires cell { Has (view s.old).facts (fact.Trusted (index_of word) tag value) }
@@ -142,7 +135,6 @@ pub fn bind_trusted(
     value: u64,
 ) -> u64
     requires caller { IsOf shared.now s.old }
-    requires mutator { (view s.old).number < 8 }
     requires held { IsHeld (view s.old) object }
     requires filled { Has (view s.old).fresh (claim_of (view s.old) Trusted (index_of word)) }
     requires cell { Has (view s.old).facts (fact.Trusted (index_of word) tag value) }
@@ -156,7 +148,6 @@ pub fn bind_trusted(
 
 fn bind_shared_as<N: Learning>(shared: &Shared, s: &mut Session, object: u32, word: u32) -> u64
     requires caller { IsOf shared.now s.old }
-    requires mutator { (view s.old).number < 8 }
     requires held { IsHeld (view s.old) object }
     requires settled { Has (view s.old).facts (fact.Settled (index_of word)) }
     requires marked { IsMarkedInCycle (view s.old) word }
@@ -174,7 +165,6 @@ fn bind_shared_as<N: Learning>(shared: &Shared, s: &mut Session, object: u32, wo
 /// holds, where the field is 0. The answer is the word that was found.
 pub fn bind_shared(shared: &Shared, s: &mut Session, object: u32, word: u32) -> u64
     requires caller { IsOf shared.now s.old }
-    requires mutator { (view s.old).number < 8 }
     requires held { IsHeld (view s.old) object }
     requires settled { Has (view s.old).facts (fact.Settled (index_of word)) }
     requires marked { IsMarkedInCycle (view s.old) word }
@@ -186,7 +176,6 @@ pub fn bind_shared(shared: &Shared, s: &mut Session, object: u32, word: u32) -> 
 
 fn forge_step_as<N: Learning>(shared: &Shared, s: &mut Session, number: u32, word: u32) -> u64
     requires caller { IsOf shared.now s.old }
-    requires mutator { (view s.old).number < 8 }
     requires held { IsHeld (view s.old) (object_of (field.External number)) }
     requires picked { (found : ℕ) (v w : Known) → N.learns found v w ↔ Forged v number word w }
     ensures caller { IsOf shared.now s.new }
@@ -202,7 +191,6 @@ fn forge_step_as<N: Learning>(shared: &Shared, s: &mut Session, number: u32, wor
 /// Forges any word into an external field, by its number, of an object that a variable holds.
 pub fn forge_step(shared: &Shared, s: &mut Session, number: u32, word: u32)
     requires caller { IsOf shared.now s.old }
-    requires mutator { (view s.old).number < 8 }
     requires held { IsHeld (view s.old) (object_of (field.External number)) }
     ensures caller { IsOf shared.now s.new }
     ensures learned { Forged (view s.old) number word (view s.new) }

@@ -124,7 +124,6 @@ fn get_reference_as<N: Learning>(
     k: u32,
 ) -> u64
     requires caller { IsOf shared.now s.old }
-    requires mutator { (view s.old).number < 8 }
     requires variable { into < 16 }
     requires held { IsHeld (view s.old) object }
     requires few { k < 4 }
@@ -144,7 +143,6 @@ fn get_reference_as<N: Learning>(
 /// the number of the object plus 1.
 pub fn get_reference(shared: &Shared, s: &mut Session, into: u32, object: u32, k: u32) -> u64
     requires caller { IsOf shared.now s.old }
-    requires mutator { (view s.old).number < 8 }
     requires variable { into < 16 }
     requires held { IsHeld (view s.old) object }
     requires few { k < 4 }
@@ -192,7 +190,6 @@ fn link_reference_as<N: Learning>(
     word: u32,
 ) -> u64
     requires caller { IsOf shared.now s.old }
-    requires mutator { (view s.old).number < 8 }
     requires held { IsHeld (view s.old) object }
     requires few { k < 4 }
     requires aims { IsTarget (view s.old) target word }
@@ -219,7 +216,6 @@ pub fn link_reference(
     word: u32,
 )
     requires caller { IsOf shared.now s.old }
-    requires mutator { (view s.old).number < 8 }
     requires held { IsHeld (view s.old) object }
     requires few { k < 4 }
     requires aims { IsTarget (view s.old) target word }
@@ -238,7 +234,6 @@ fn link_global_as<N: Learning>(
     word: u32,
 ) -> u64
     requires caller { IsOf shared.now s.old }
-    requires mutator { (view s.old).number < 8 }
     requires few { g < 16 }
     requires aims { IsTarget (view s.old) target word }
     requires picked { (found : ℕ) (v w : Known) → N.learns found v w ↔ LinkedTo v (Global g) target w }
@@ -254,7 +249,6 @@ fn link_global_as<N: Learning>(
 /// Links a global below 16 to what a variable holds, or to nothing: `word` is as that of `link_reference`.
 pub fn link_global(shared: &Shared, s: &mut Session, g: u32, target: Option<u32>, word: u32)
     requires caller { IsOf shared.now s.old }
-    requires mutator { (view s.old).number < 8 }
     requires few { g < 16 }
     requires aims { IsTarget (view s.old) target word }
     ensures caller { IsOf shared.now s.new }

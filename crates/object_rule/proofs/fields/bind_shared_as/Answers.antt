@@ -4,6 +4,7 @@ use Rattle.entry_base.proofs.Steps.{learned_at}
 use Rattle.entry_base.proofs.OneByOne.{caller_same, held_within_limit}
 use Rattle.entry_base.proofs.TiedParts.{tied_stays}
 use Rattle.object_rule.specs.Fields.{BoundShared}
+use Rattle.object_rule.proofs.Held.{mutator-held}
 use Rattle.object_rule.proofs.SharedBinds.{binds_shared}
 use Rattle.object_rule.proofs.fields.bind_shared_as.Goals as goal
 
@@ -17,7 +18,7 @@ compare_exchange-requires g c =
       r.caller.0,
       omega (arith, object_low),
       learned_at _ _ _ c.args.s.now.seat.me _ _ (λ n. either (n == 0) c.args.word n) _ (λ found w. BoundShared c.args.s.now.seat.me.0 c.args.object c.args.word found w) _ (refl) (λ n. refl) (λ n w learned. (r.picked n c.args.s.now.seat.me.0 w).1 learned)
-          (binds_shared _ _ _ c.args.s.now.seat.me c.args.object c.args.word r.caller.1 r.mutator r.held r.settled r.marked (omega arith)),
+          (binds_shared _ _ _ c.args.s.now.seat.me c.args.object c.args.word r.caller.1 (mutator-held c.args.s.now.seat.me.0 _ c.args.s.now.tied.many r.held) r.held r.settled r.marked (omega arith)),
     )
 
 pub invariant_of-s : goal.invariant_of-s

@@ -3,6 +3,7 @@ use prog.Atomic.{either}
 use Rattle.entry_base.proofs.Steps.{learned_at}
 use Rattle.entry_base.proofs.OneByOne.{held_within_limit}
 use Rattle.object_rule.specs.Fields.{BoundTrusted}
+use Rattle.object_rule.proofs.Held.{mutator-held}
 use Rattle.object_rule.proofs.TrustedBinds.{binds_trusted, bound_tied}
 use Rattle.object_rule.proofs.fields.bind_trusted_as.Goals as goal
 
@@ -16,7 +17,7 @@ compare_exchange-found-requires g c =
       r.caller.0,
       omega (arith, object_low),
       learned_at _ _ _ c.args.s.now.seat.me _ _ (λ n. either (n == 0) c.args.word n) _ (λ found w. BoundTrusted c.args.s.now.seat.me.0 c.args.object c.args.word c.args.tag c.args.value found w) _ (refl) (λ n. refl) (λ n w learned. (r.picked n c.args.s.now.seat.me.0 w).1 learned)
-          (binds_trusted _ _ _ c.args.s.now.seat.me c.args.object c.args.word c.args.tag c.args.value r.caller.1 r.mutator r.held r.filled r.cell (omega arith)),
+          (binds_trusted _ _ _ c.args.s.now.seat.me c.args.object c.args.word c.args.tag c.args.value r.caller.1 (mutator-held c.args.s.now.seat.me.0 _ c.args.s.now.tied.many r.held) r.held r.filled r.cell (omega arith)),
     )
 
 pub invariant_of-s : goal.invariant_of-s

@@ -5,6 +5,7 @@ use Rattle.entry_base.proofs.Steps.{learned_at}
 use Rattle.entry_base.proofs.OneByOne.{caller_same, held_within_limit}
 use Rattle.entry_base.proofs.TiedParts.{tied_stays}
 use Rattle.object_rule.specs.Fields.{Forged}
+use Rattle.object_rule.proofs.Held.{mutator-held}
 use Rattle.object_rule.proofs.Forges.{forges}
 use Rattle.object_rule.proofs.fields.forge_step_as.Goals as goal
 
@@ -18,7 +19,7 @@ swap-requires g c =
       r.caller.0,
       omega (arith, object_low),
       learned_at _ _ _ c.args.s.now.seat.me _ _ (λ x. c.args.word) _ (λ found w. Forged c.args.s.now.seat.me.0 c.args.number c.args.word w) _ (refl) (λ n. refl) (λ n w learned. (r.picked n c.args.s.now.seat.me.0 w).1 learned)
-          (forges _ _ _ c.args.s.now.seat.me c.args.number c.args.word r.caller.1 r.mutator r.held (omega arith)),
+          (forges _ _ _ c.args.s.now.seat.me c.args.number c.args.word r.caller.1 (mutator-held c.args.s.now.seat.me.0 _ c.args.s.now.tied.many r.held) r.held (omega arith)),
     )
 
 pub invariant_of-s : goal.invariant_of-s

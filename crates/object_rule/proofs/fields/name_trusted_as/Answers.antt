@@ -3,6 +3,7 @@ use Rattle.entry_base.proofs.Steps.{learned_at}
 use Rattle.entry_base.proofs.OneByOne.{caller_same, held_within_limit}
 use Rattle.entry_base.proofs.TiedParts.{tied_stays}
 use Rattle.object_rule.specs.Fields.{NamedTrusted}
+use Rattle.object_rule.proofs.Held.{mutator-held}
 use Rattle.object_rule.proofs.FieldNames.{names_trusted}
 use Rattle.object_rule.proofs.fields.name_trusted_as.Goals as goal
 
@@ -16,7 +17,7 @@ load-requires g c =
       r.caller.0,
       omega (arith, object_low),
       learned_at _ _ _ c.args.s.now.seat.me _ _ (λ n. n) _ (λ found w. NamedTrusted c.args.s.now.seat.me.0 c.args.object found w) _ (refl) (λ n. refl) (λ n w learned. (r.picked n c.args.s.now.seat.me.0 w).1 learned)
-          (names_trusted _ _ _ c.args.s.now.seat.me c.args.object r.caller.1 r.mutator r.held),
+          (names_trusted _ _ _ c.args.s.now.seat.me c.args.object r.caller.1 (mutator-held c.args.s.now.seat.me.0 _ c.args.s.now.tied.many r.held) r.held),
     )
 
 pub invariant_of-s : goal.invariant_of-s

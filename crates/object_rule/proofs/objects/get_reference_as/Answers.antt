@@ -4,7 +4,7 @@ use Rattle.entry_base.specs.Openings.{sizes_in}
 use Rattle.entry_base.proofs.Steps.{learned_at}
 use Rattle.entry_base.proofs.OneByOne.{held_within_limit}
 use Rattle.object_rule.specs.Objects.{Got}
-use Rattle.object_rule.proofs.Held.{set_calls, set_tied}
+use Rattle.object_rule.proofs.Held.{mutator-held, set_calls, set_tied}
 use Rattle.object_rule.proofs.VariableGets.{gets_reference}
 use Rattle.object_rule.proofs.objects.get_reference_as.Goals as goal
 
@@ -18,7 +18,7 @@ load-found-requires g c =
       r.caller.0,
       omega (arith, object_low, r.few),
       learned_at _ _ _ c.args.s.now.seat.me _ _ (λ n. n) _ (λ found w. Got c.args.s.now.seat.me.0 c.args.into (Ref c.args.object c.args.k) found w) _ (refl) (λ n. refl) (λ n w learned. (r.picked n c.args.s.now.seat.me.0 w).1 learned)
-          (gets_reference _ _ _ c.args.s.now.seat.me c.args.into c.args.object c.args.k r.caller.1 r.mutator c.args.s.now.tied.many r.variable r.held r.few),
+          (gets_reference _ _ _ c.args.s.now.seat.me c.args.into c.args.object c.args.k r.caller.1 (mutator-held c.args.s.now.seat.me.0 _ c.args.s.now.tied.many r.held) c.args.s.now.tied.many r.variable r.held r.few),
     )
 
 pub invariant_of-s : goal.invariant_of-s

@@ -16,7 +16,7 @@ swap-requires g c =
       r.caller.0,
       omega (arith, r.few),
       learned_at _ _ _ c.args.s.now.seat.me _ _ (λ x. c.args.word) _ (λ found w. LinkedTo c.args.s.now.seat.me.0 (Global c.args.g) c.args.target w) _ (refl) (λ n. refl) (λ n w learned. (r.picked n c.args.s.now.seat.me.0 w).1 learned)
-          (links_global _ _ _ c.args.s.now.seat.me c.args.g c.args.target c.args.word r.caller.1 r.mutator r.few r.aims),
+          (links_global _ _ _ c.args.s.now.seat.me c.args.g c.args.target c.args.word r.caller.1 c.args.s.now.tied.many r.few r.aims),
     )
 
 pub invariant_of-s : goal.invariant_of-s

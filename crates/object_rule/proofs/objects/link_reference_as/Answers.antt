@@ -4,6 +4,7 @@ use Rattle.entry_base.proofs.Steps.{learned_at}
 use Rattle.entry_base.proofs.OneByOne.{caller_same, held_within_limit}
 use Rattle.entry_base.proofs.TiedParts.{tied_stays}
 use Rattle.object_rule.specs.Objects.{LinkedTo}
+use Rattle.object_rule.proofs.Held.{mutator-held}
 use Rattle.object_rule.proofs.References.{links_reference}
 use Rattle.object_rule.proofs.objects.link_reference_as.Goals as goal
 
@@ -17,7 +18,7 @@ swap-requires g c =
       r.caller.0,
       omega (arith, object_low, r.few),
       learned_at _ _ _ c.args.s.now.seat.me _ _ (λ x. c.args.word) _ (λ found w. LinkedTo c.args.s.now.seat.me.0 (Ref c.args.object c.args.k) c.args.target w) _ (refl) (λ n. refl) (λ n w learned. (r.picked n c.args.s.now.seat.me.0 w).1 learned)
-          (links_reference _ _ _ c.args.s.now.seat.me c.args.object c.args.k c.args.target c.args.word r.caller.1 r.mutator r.held r.few r.aims r.clear),
+          (links_reference _ _ _ c.args.s.now.seat.me c.args.object c.args.k c.args.target c.args.word r.caller.1 (mutator-held c.args.s.now.seat.me.0 _ c.args.s.now.tied.many r.held) c.args.s.now.tied.many r.held r.few r.aims r.clear),
     )
 
 pub invariant_of-s : goal.invariant_of-s
