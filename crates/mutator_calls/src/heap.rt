@@ -7,17 +7,18 @@ use plain_table::OutOfMemory;
 use std::alloc::Global;
 use sweeper::Area;
 
-/// The one mutator, number 0, with the image that its calls work on. Between two calls it is ready (`IsReady` of
-/// `specs/Calls.antt`): the image is lawful, and the objects that are shaded and not scanned are listed.
+/// The one mutator, number 0, with the image that its calls work on; and, without its calls, an image at the meets between phases.
+/// Between two calls it is ready (`IsReady` of `specs/Calls.antt`): the image is lawful, and the objects that are shaded and not
+/// scanned are listed.
 #[derive(Debug, Drop)]
 pub struct Mutator {
     pub image: Image,
     /// Room to list all objects; the first `owed` are those that are shaded and not scanned, each once.
-    pub(crate) list: Vec<u32>,
+    pub list: Vec<u32>,
     /// How many objects are listed.
-    pub(crate) owed: usize,
+    pub owed: usize,
     /// What the start of the cycle under way gave.
-    pub(crate) area: Option<Area>,
+    pub area: Option<Area>,
 }
 
 impl Mutator {
