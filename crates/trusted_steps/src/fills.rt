@@ -28,7 +28,6 @@ use tag_set::Tag;
 /// bind finds a word in the field, and Ok where the field has the new word: only then the mutator has the ticket of the new entry.
 pub fn tnew(shared: &Shared, s: &mut Session, var: u32, tag: Tag, value: u64) -> Reply
     requires caller { IsOf shared.now s.old }
-    requires mutator { (view s.old).number < 8 }
     requires range { var < 16 }
     requires small { value < 2 ^ 48 }
     ensures caller { IsOf shared.now s.new }
@@ -57,7 +56,6 @@ fn fill_new<L: Ledger>(
     blank: Blank,
 ) -> Reply
     requires caller { IsOf shared.now s.old }
-    requires mutator { (view s.old).number < 8 }
     requires held { IsHeld (view s.old) object }
     requires small { value < 2 ^ 48 }
     requires none { ticket_in (view s.old) ≡ None }
@@ -88,7 +86,6 @@ fn bind_new(
     value: u64,
 ) -> Reply
     requires caller { IsOf shared.now s.old }
-    requires mutator { (view s.old).number < 8 }
     requires held { IsHeld (view s.old) object }
     requires small { value < 2 ^ 48 }
     requires owed { Has (view s.old).owed (claim_of (view s.old) Trusted ticket.index) }

@@ -15,7 +15,6 @@ use tag_set::Range;
 /// exactly where the index is 0, and Fault where no such cell stands there.
 pub fn traw(shared: &Shared, s: &mut Session, word: u32, range: Range) -> Reply
     requires caller { IsOf shared.now s.old }
-    requires mutator { (view s.old).number < 8 }
     ensures caller { IsOf shared.now s.new }
     ensures made { Made (view s.old) (op.TRaw word range.first range.last) result (view s.new) }
     ensures leaves { LeavesOwn (view s.old) (view s.new) }
@@ -28,7 +27,6 @@ pub fn traw(shared: &Shared, s: &mut Session, word: u32, range: Range) -> Reply
 /// of tags, a value, Null or a fault; or Empty exactly where the variable holds nothing.
 pub fn tload(shared: &Shared, s: &mut Session, var: u32, range: Range) -> Reply
     requires caller { IsOf shared.now s.old }
-    requires mutator { (view s.old).number < 8 }
     requires range { var < 16 }
     ensures caller { IsOf shared.now s.new }
     ensures made { Made (view s.old) (op.TLoad var range.first range.last) result (view s.new) }

@@ -18,7 +18,6 @@ use plain_table::Reply;
 /// mutator's ticket; else Ok, and the ticket is given up.
 pub fn publish(shared: &Shared, s: &mut Session, var: u32) -> Reply
     requires caller { IsOf shared.now s.old }
-    requires mutator { (view s.old).number < 8 }
     requires range { var < 16 }
     ensures caller { IsOf shared.now s.new }
     ensures made { Made (view s.old) (op.TPub var) result (view s.new) }

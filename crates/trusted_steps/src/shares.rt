@@ -21,7 +21,6 @@ use plain_table::Reply;
 /// the bind.
 pub fn share(shared: &Shared, s: &mut Session, from: u32, to: u32) -> Reply
     requires caller { IsOf shared.now s.old }
-    requires mutator { (view s.old).number < 8 }
     requires range { (from < 16) × (to < 16) }
     ensures caller { IsOf shared.now s.new }
     ensures made { Made (view s.old) (op.Share from to) result (view s.new) }
@@ -40,7 +39,6 @@ pub fn share(shared: &Shared, s: &mut Session, from: u32, to: u32) -> Reply
 /// Binds the trusted field of a target object to the entry that a source object's field names. Variables hold both objects.
 fn share_entry(shared: &Shared, s: &mut Session, source: u32, target: u32) -> Reply
     requires caller { IsOf shared.now s.old }
-    requires mutator { (view s.old).number < 8 }
     requires held { IsHeld (view s.old) source × IsHeld (view s.old) target }
     ensures caller { IsOf shared.now s.new }
     ensures shares { SharesEntry (view s.old) source target result (view s.new) }

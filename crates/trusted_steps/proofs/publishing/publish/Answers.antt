@@ -1,6 +1,8 @@
 use Rattle.std.proofs.Common.{option_map, ap, ◌∙◌, sym}
 use Rattle.entry_word.specs.declared.image.Pending.{Pending}
 use Rattle.entry_base.specs.Sessions.{view}
+use Rattle.object_rule.proofs.Held.{mutator-held}
+use Rattle.call_base.proofs.HeldVariables.{holds_in}
 use Rattle.trusted_steps.proofs.TrustedCalls.{Made-publish_empty, Made-not_yours, Made-publish}
 use Rattle.trusted_steps.proofs.publishing.publish.Goals as goal
 
@@ -14,7 +16,10 @@ returns-in-None-own_cell-clause-made c =
 
 pub returns-in-Some-own_cell-clause-made : goal.returns-in-Some-own_cell-clause-made
 returns-in-Some-own_cell-clause-made c =
+    let v = view c.args.s.now in
     let own = c.in-Some-own_cell.ensures.own in
-    Made-publish (view c.args.s.now) (view c.name_trusted-word.new.s) c.args.var c.in-Some.object c.name_trusted-word.result c.requires.range (sym c.held.ensures ∙ c.in-Some.is)
+    let found = sym c.held.ensures ∙ c.in-Some.is in
+    let mutator = mutator-held v c.in-Some.object c.args.s.now.tied.many (c.args.var, holds_in v c.args.var c.in-Some.object c.requires.range found) in
+    Made-publish v (view c.name_trusted-word.new.s) c.args.var c.in-Some.object c.name_trusted-word.result c.requires.range found
     c.requires.caller.1.own c.name_trusted-word.ensures.learned.named.answered (view c.publish_step.new.s) c.in-Some-own_cell.cell.index
-    c.requires.mutator c.args.s.now.tied.eight c.name_trusted-word.ensures.caller.1.own (ap (option_map (λ (p : Pending). p.index)) own.0) own.1 c.publish_step.ensures.learned
+    mutator c.args.s.now.tied.eight c.name_trusted-word.ensures.caller.1.own (ap (option_map (λ (p : Pending). p.index)) own.0) own.1 c.publish_step.ensures.learned
