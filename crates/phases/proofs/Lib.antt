@@ -1,2 +1,6 @@
+pub mod Lists
 pub mod Given
 pub mod Taken
+pub mod Suits
+pub mod Played
+pub mod Whole
