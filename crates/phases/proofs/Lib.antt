@@ -4,3 +4,5 @@ pub mod Taken
 pub mod Suits
 pub mod Played
 pub mod Whole
+pub mod Scanned
+pub mod Closed
