@@ -1,0 +1,4 @@
+pub mod ShapeEvents
+pub mod CallRows
+pub mod HistoryEvents
+pub mod LinkedObjects
