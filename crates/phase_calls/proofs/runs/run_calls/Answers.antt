@@ -34,7 +34,7 @@ loop-call-preserved g c =
       c.make_call-said.ensures.makes.made.called.same.number ∙ before.1,
       subst (λ (calls : List Op). MakesInTurn (view c.args.s.now) calls c.push_reserved.new.self.items (view c.make_call-said.new.s)) (sym longer)
           (subst (λ (said : List Reply). MakesInTurn (view c.args.s.now) (take c.loop-call.call-index c.args.calls.now ++ call ∷ []) said (view c.make_call-said.new.s))
-          (sym c.push_reserved.ensures.items) more),
+          (sym {A = List Reply} c.push_reserved.ensures.items) more),
       omega (arith, listed, one_more, many),
       omega (arith, number),
     )
