@@ -42,7 +42,7 @@ MakesCalls-puts b cycle held own (call ∷ calls) (said ∷ replies) es says mad
     ap puts_in made.2 ∙ puts_in-append made.0 made.1
     ∙ ap (λ (n : ℕ). n + puts_in made.1) (puts_in-shape b cycle held own.ticket call said made.0 (each_first BindsSay made.0 made.1 each) made.3)
     ∙ ap (λ (n : ℕ). puts_by call said + n)
-        (MakesCalls-puts b cycle (held_after held made.0) (own_after own made.0) calls replies made.1 (each_last BindsSay made.0 made.1 each) made.4)
+    (MakesCalls-puts b cycle (held_after held made.0) (own_after own made.0) calls replies made.1 (each_last BindsSay made.0 made.1 each) made.4)
 
 -- each call has its reply
 pub MakesCalls-length : (b : ℕ) (cycle : Option Cycle) (held : Held) (own : OwnTicket) (calls : List Op) (replies : List Reply) (es : List Event) →

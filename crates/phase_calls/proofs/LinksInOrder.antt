@@ -2,7 +2,6 @@
 use Rattle.std.proofs.Common.{◌≡◌, ℕ, ◌<◌, List, [], ◌∷◌, ◌++◌, Option, Some, None, refl, sym, ap, subst, subst₂, ◌∙◌, inl, inr, append_assoc}
 use Rattle.std.specs.Prelude.{◌⊎◌, ◌≢◌, ◌↔◌, IfSome}
 use Rattle.std.specs.Option.{option_map_or, option_to_list}
-use Rattle.plain_table.specs.declared.events.Act.{Act}
 use Rattle.plain_table.specs.declared.events.Event.{Event}
 use Rattle.plain_table.specs.declared.reports.Reply.{Reply}
 use Rattle.plain_table.specs.declared.reports.Reply.TheVariants as reply
@@ -19,7 +18,7 @@ use Rattle.entry_base.specs.Lists.{Has}
 use Rattle.entry_base.specs.Openings.{phase_of}
 use Rattle.entry_base.specs.Sessions.{held_in}
 use Rattle.entry_base.proofs.Sums.{has_append}
-use Rattle.call_base.specs.Called.{Made, MadeAll, Suits}
+use Rattle.call_base.specs.Called.{Made, Suits}
 use Rattle.call_base.proofs.CallsInOrder.{called_none, called_trans}
 use Rattle.call_base.proofs.HeldVariables.{held_suits}
 use Rattle.graph_steps.specs.Graph.{HoldsReply, IsUnheld, target_in}
@@ -171,6 +170,7 @@ module _ (v w : View) (var k : ℕ) (said : Reply) (few : var < 16) (kinds : (sa
     where
       links : (cycle : Option Cycle) (held : Held) (ticket : OwnTicket) → Suits v cycle held ticket → linked_by held made.own ≡ linked_of held (op.Link var k target)
       links cycle held ticket suits = linked_by-shape v.number cycle held ticket.ticket (op.Link var k target) said made.own (made.shape cycle held ticket suits)
+
       by : (shaded : Option ℕ) → IfSome shaded (λ q. (said ≡ reply.Ok) × (target_in v target ≡ Some q) × (phase_of v.opening ≡ 1)) →
           (o : ℕ) → Has (option_map_or (λ q. q ∷ v.hands) shaded v.hands) o →
           (cycle : Option Cycle) (held : Held) (ticket : OwnTicket) → Suits v cycle held ticket → Has v.hands o ⊎ Has (linked_by held made.own) o

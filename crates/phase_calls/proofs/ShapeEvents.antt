@@ -1,6 +1,6 @@
 -- What the events of a call's shape are: the acts that a call makes, what it links to references, and how many external cells it
 -- puts where each bind says ok or taken.
-use Rattle.std.proofs.Common.{◌≡◌, ℕ, ◌+◌, Bool, true, false, List, [], ◌∷◌, ◌++◌, Option, Some, None, refl, sym, ap, subst, ◌∙◌, inl, inr, append-nil}
+use Rattle.std.proofs.Common.{◌≡◌, ℕ, ◌+◌, Bool, true, false, List, [], ◌∷◌, ◌++◌, Option, Some, None, refl, sym, ap, subst, ◌∙◌, inl, inr}
 use Rattle.std.specs.Prelude.{◌≢◌, ◌⊎◌, if◌then◌else◌, MatchOption}
 use Rattle.std.specs.List.{count_by}
 use Rattle.std.specs.Option.{option_to_list}
@@ -166,6 +166,7 @@ link_acts b held var k target said es shape = by (held var) target shape
     by_target : (o : ℕ) (t : ℕ) (found : Option ℕ) → MatchOption found (IsEmptyCall said es) (λ q. IsLink b (Ref o k) (Some t) said es) → AreOfCalls es
     by_target o t None empty = subst AreOfCalls (sym empty.1) tt
     by_target o t (Some q) is = subst AreOfCalls (sym is) (tt, tt)
+
     by : (found target : Option ℕ) → MatchOption found (IsEmptyCall said es) (λ o. WithTarget held target said es (IsLink b (Ref o k) target said es)) → AreOfCalls es
     by None target empty = subst AreOfCalls (sym empty.1) tt
     by (Some o) None is = subst AreOfCalls (sym is) (tt, tt)
@@ -315,6 +316,7 @@ link_puts b held var k target said es shape = by (held var) target shape
     by_target : (o : ℕ) (t : ℕ) (found : Option ℕ) → MatchOption found (IsEmptyCall said es) (λ q. IsLink b (Ref o k) (Some t) said es) → puts_in es ≡ 0
     by_target o t None empty = ap puts_in empty.1
     by_target o t (Some q) is = ap puts_in is
+
     by : (found target : Option ℕ) → MatchOption found (IsEmptyCall said es) (λ o. WithTarget held target said es (IsLink b (Ref o k) target said es)) → puts_in es ≡ 0
     by None target empty = ap puts_in empty.1
     by (Some o) None is = ap puts_in is

@@ -23,7 +23,7 @@ loop-call-preserved g c =
     let before = c.loop-call.invariant in
     let call = get_or c.args.calls.now c.loop-call.call-index (New 0) in
     let more = MakesInTurn-push (view c.args.s.now) (view c.loop-call.s) (view c.make_call-said.new.s) (take c.loop-call.call-index c.args.calls.now)
-        c.loop-call.replies.items call c.make_call-said.result before.2 c.make_call-said.ensures.makes in
+    c.loop-call.replies.items call c.make_call-said.result before.2 c.make_call-said.ensures.makes in
     let longer : take (c.loop-call.call-index + 1) c.args.calls.now ≡ take c.loop-call.call-index c.args.calls.now ++ call ∷ [] =
     take_more c.args.calls.now c.loop-call.call-index (New 0) c.loop-call-test.true in
     let listed = ap length c.push_reserved.ensures.items in
@@ -34,7 +34,7 @@ loop-call-preserved g c =
       c.make_call-said.ensures.makes.made.called.same.number ∙ before.1,
       subst (λ (calls : List Op). MakesInTurn (view c.args.s.now) calls c.push_reserved.new.self.items (view c.make_call-said.new.s)) (sym longer)
           (subst (λ (said : List Reply). MakesInTurn (view c.args.s.now) (take c.loop-call.call-index c.args.calls.now ++ call ∷ []) said (view c.make_call-said.new.s))
-          (sym c.push_reserved.ensures.items) more),
+          (sym {A = List Reply} c.push_reserved.ensures.items) more),
       omega (arith, listed, one_more, many),
       omega (arith, number),
     )

@@ -1,5 +1,5 @@
 -- The calls before this turn are made, and their replies are listed.
-use Rattle.std.proofs.Common.{◌≡◌, ◌<◌, length, take}
+use Rattle.std.proofs.Common.{◌≡◌, length, take}
 use Rattle.entry_base.specs.Sessions.{view, IsOf}
 use Rattle.phase_calls.specs.Calls.{MakesInTurn}
 use Rattle.phase_calls.proofs.runs.run_calls.Given as goal
