@@ -6,3 +6,4 @@ pub mod Played
 pub mod Whole
 pub mod Scanned
 pub mod Closed
+pub mod Pushed

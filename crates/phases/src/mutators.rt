@@ -1,5 +1,5 @@
 // The mutators of a phase: their workers are made, run on threads, and taken in again.
-ghost use Rattle.std.specs.Prelude.{◌≡◌, ◌≤◌, ◌<◌, ℕ, [], ◌++◌, IfOk, length, map, slice_index_or, vec_capacity};
+ghost use Rattle.std.specs.Prelude.{◌≡◌, ◌≤◌, ◌<◌, ℕ, List, [], IfOk, length, map, slice_index_or, vec_capacity};
 ghost use Rattle.std.specs.List.{All};
 ghost use Rattle.plain_table.specs.declared.scripts.Op.{Op};
 ghost use Rattle.script_reader.specs.Lines.{most_operations};

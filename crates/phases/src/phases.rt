@@ -20,6 +20,7 @@ use std::thread::Threads;
 
 /// The place of the first header, and the words of an object.
 const FIRST_HEADER: usize = 32;
+
 const OBJECT_WORDS: usize = 8;
 /// The header of an object that is shaded and not scanned.
 const GREY: u64 = 1;
