@@ -6,5 +6,7 @@
 #![tactic(auto)]
 
 mod generator;
+mod seeds;
 
 pub use generator::generate;
+pub use seeds::seed_of;
