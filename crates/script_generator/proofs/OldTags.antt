@@ -1,5 +1,5 @@
 -- The list of all old tags is the one that has each of them once, ascending.
-use Rattle.std.proofs.Common.{◌≡◌, ℕ, zero, suc, ◌+◌, ◌<◌, ◌≤◌, ◌⊎◌, ◌==◌, Bool, true, false, cond, List, [], ◌∷◌, ◌++◌, length, filter, count_ones, slice_index, get_or, refl, ap, sym, ◌∙◌, subst, arith, inl, inr, All, AllPairs, Contains}
+use Rattle.std.proofs.Common.{◌≡◌, ℕ, zero, suc, ◌<◌, ◌≤◌, ◌⊎◌, ◌==◌, Bool, true, false, cond, List, [], ◌∷◌, ◌++◌, length, filter, count_ones, get_or, refl, ap, sym, ◌∙◌, subst, arith, inl, inr, All, AllPairs, Contains}
 use Rattle.std.specs.List.Sorted.{IsStrictlyIncreasing}
 use Rattle.std.proofs.lemmas.Bool.{cases_eq, eqb-true, eq-eqb}
 use Rattle.std.proofs.lemmas.List.{append-nil}
@@ -46,8 +46,8 @@ Contains-old_below zero byte h old = absurd (omega (arith, h))
 Contains-old_below (suc n) byte h old = elim (cases_eq byte n) [
   | inl e ↦ subst (λ m. Contains (old_below (suc n)) m) (sym e) (Contains-last n (subst IsOldTag e old))
   | inr other ↦ subst (λ xs. Contains xs byte) (sym (old_below-suc n))
-    (Contains-append_left (old_below n) (cond (is_old n) (n ∷ []) []) byte
-    (Contains-old_below n byte (omega (arith, h, other)) old))
+      (Contains-append_left (old_below n) (cond (is_old n) (n ∷ []) []) byte
+      (Contains-old_below n byte (omega (arith, h, other)) old))
 ]
 
 All-below : (n : ℕ) → All (λ m. m < n) (first_numbers n)
@@ -96,7 +96,7 @@ firsts-equal x xs y ys asc desc there here = elim (Contains-cases y ys x there) 
   | inr later ↦ elim (Contains-cases x xs y here) [
     | inl e ↦ e
     | inr early ↦ let a = above-first y ys x desc later in let b = above-first x xs y asc early in
-      absurd (omega (arith, a, b))
+        absurd (omega (arith, a, b))
   ]
 ]
 

@@ -23,7 +23,7 @@ number_onto-large (byte ∷ bytes) n h =
     as (λ o. fitting (option_and_then (λ d. cond (nat_lt d 10) (number_onto 10 (10 * n + d) bytes) None) o) ≡ None) [
       | None ↦ refl
       | Some d ↦ elim (nat_lt d 10) as (λ b. fitting (cond b (number_onto 10 (10 * n + d) bytes) None) ≡ None)
-        [ true ↦ number_onto-large bytes (10 * n + d) (omega (arith, h)) | false ↦ refl ]
+          [ true ↦ number_onto-large bytes (10 * n + d) (omega (arith, h)) | false ↦ refl ]
     ]
 
 number_onto-room : (m : ℕ) (bytes : List ℕ) (b : Bool) → nat_lt m (2 ^ 64) ≡ b
@@ -42,9 +42,9 @@ number_onto-digit n byte bytes =
     (fitting (option_and_then (λ d. when (nat_lt d 10) (Some (10 * n + d))) o))) [
       | None ↦ refl
       | Some d ↦ elim (nat_lt d 10)
-        as (λ b. fitting (cond b (number_onto 10 (10 * n + d) bytes) None)
-        ≡ option_and_then (λ m. fitting (number_onto 10 m bytes)) (fitting (when b (Some (10 * n + d)))))
-        [ true ↦ number_onto-room (10 * n + d) bytes (nat_lt (10 * n + d) (2 ^ 64)) refl | false ↦ refl ]
+          as (λ b. fitting (cond b (number_onto 10 (10 * n + d) bytes) None)
+          ≡ option_and_then (λ m. fitting (number_onto 10 m bytes)) (fitting (when b (Some (10 * n + d)))))
+          [ true ↦ number_onto-room (10 * n + d) bytes (nat_lt (10 * n + d) (2 ^ 64)) refl | false ↦ refl ]
     ]
 
 -- a byte that is no digit, or one too many, ends the number

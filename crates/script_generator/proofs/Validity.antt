@@ -1,5 +1,5 @@
 -- The generated script is valid, and has 22,816 operations.
-use Rattle.std.proofs.Common.{◌≡◌, ℕ, zero, suc, ◌+◌, ◌*◌, ◌%◌, ◌^◌, ◌<◌, ◌≤◌, ◌==◌, Bool, true, false, cond, List, [], ◌∷◌, ◌++◌, Some, length, map, sum_by, slice_index, refl, ap, sym, ◌∙◌, subst, arith, inl, inr}
+use Rattle.std.proofs.Common.{◌≡◌, ℕ, zero, suc, ◌+◌, ◌*◌, ◌%◌, ◌^◌, ◌<◌, ◌==◌, Bool, true, false, cond, List, [], ◌∷◌, ◌++◌, Some, length, map, sum_by, slice_index, refl, ap, sym, ◌∙◌, arith, inl, inr}
 use Rattle.std.specs.List.{All, flat_map}
 use Rattle.std.proofs.Math.Nat.{mod-lt}
 use Rattle.std.proofs.lemmas.List.{append_assoc, length-append, length-map}
@@ -120,6 +120,10 @@ cycles-in_turn seed = refl
 length-before_end : (seed : ℕ) → length (before_end seed) ≡ 16
 unfolding first_numbers
 length-before_end seed = refl
+
+pub length-generated : (seed : ℕ) → length (phases_of seed) ≡ 17
+length-generated seed =
+    ap length (phases-split seed) ∙ length-append (before_end seed) (empty_phase End ∷ []) ∙ omega (arith, length-before_end seed)
 
 -- how many operations there are
 lists_length-append : (xs ys : List (List Op)) → lists_length (xs ++ ys) ≡ lists_length xs + lists_length ys

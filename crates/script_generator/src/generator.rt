@@ -1,9 +1,9 @@
 // The phases of the generated script, appended piece by piece. Each function computes the definition of
 // `specs/Generated.antt` that its contract names; want of memory is the only error.
-ghost use Rattle.std.specs.Prelude.{◌≡◌, ◌+◌, ◌++◌, ◌∷◌, [], ◌^◌, ◌<◌, ◌==◌, ◌%◌, if◌then◌else◌, IfOk, OnOk, map, slice_index};
+ghost use Rattle.std.specs.Prelude.{◌≡◌, ◌+◌, ◌++◌, ◌∷◌, [], ◌^◌, ◌<◌, ◌==◌, ◌%◌, if◌then◌else◌, IfOk, OnOk, length, map, slice_index};
 ghost use Rattle.std.specs.List.{flat_map};
 ghost use Rattle.script_generator.specs.Generated.{emptying_phase, empty_phase, first_numbers, generated, holding_lines, limits, lines_at, object_lines, old_tags, phase_of, phases_of, round_lines, round_phases};
-ghost use Rattle.script_reader.specs.Valid.{IsValidScript};
+ghost use Rattle.script_reader.specs.Valid.{IsValidScript, operations_of};
 
 use plain_table::{Limits, Meet, Op, Phase, Policy, Script};
 use script_reader::OutOfMemory;
@@ -26,7 +26,9 @@ const START: Meet = Meet::Start {
 
 /// The rounds, the objects that a mutator makes in each, and the number of those among which one is held.
 const ROUNDS: u32 = 6;
+
 const OBJECTS: u32 = 200;
+
 const HELD: u32 = 8;
 
 /// The values of cells are below this.
@@ -34,6 +36,7 @@ const VALUES: u64 = 1 << 48;
 
 /// The variables a and b.
 const OBJECT: u32 = 0;
+
 const NEXT: u32 = 1;
 
 /// The script of a seed (`generated` in `specs/Generated.antt`), a valid one of version 1 with 22,816 operations and 16
@@ -41,6 +44,9 @@ const NEXT: u32 = 1;
 pub fn generate(alloc: Global, seed: u64) -> Result<Script, OutOfMemory>
     ensures value { IfOk result (λ script. script ≡ generated seed) }
     ensures valid { IfOk result IsValidScript }
+    ensures operations { IfOk result (λ script. operations_of script.phases ≡ 22816) }
+    // 16 meets and the end
+    ensures meets { IfOk result (λ script. length script.phases ≡ 17) }
 {
     Ok(Script {
         version: 1,

@@ -10,3 +10,6 @@ mod seeds;
 
 pub use generator::generate;
 pub use seeds::seed_of;
+
+#[cfg(test)]
+mod tests;

@@ -31,9 +31,7 @@ fn with_digit(number: u64, byte: u8) -> Option<u64>
     ensures { result ≡ fitting (with_digit number byte) }
 {
     match byte {
-        b'0'..=b'9' => number
-            .checked_mul(10)?
-            .checked_add(u64::from(byte - b'0')),
+        b'0'..=b'9' => number.checked_mul(10)?.checked_add(u64::from(byte - b'0')),
         _ => None,
     }
 }

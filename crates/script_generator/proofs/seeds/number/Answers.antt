@@ -1,4 +1,4 @@
-use Rattle.std.proofs.Common.{◌≡◌, None, sym, ◌∙◌}
+use Rattle.std.proofs.Common.{sym, ◌∙◌}
 use Rattle.script_generator.proofs.SeedDigits.{number_onto-stuck, number_onto-end}
 use Rattle.script_generator.proofs.seeds.number.Goals as goal
 
