@@ -7,3 +7,4 @@ pub mod Whole
 pub mod Scanned
 pub mod Closed
 pub mod Pushed
+pub mod Working
