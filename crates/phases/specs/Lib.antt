@@ -1,3 +1,4 @@
+pub mod Markings
 pub mod Phases
 pub mod Sessions
 pub mod Workers

@@ -6,6 +6,7 @@
 //! `phases.rt` has the phase, `mutators.rt` and `markers.rt` its workers, and `chunks.rt` deals the objects to scan out.
 #![tactic(auto)]
 
+mod chunks;
 mod phases;
 
 pub use phases::{PhaseOut, run_phase};
