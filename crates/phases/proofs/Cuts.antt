@@ -9,7 +9,7 @@ use Rattle.entry_base.specs.Views.{cutter}
 use Rattle.entry_base.proofs.SplitKeeps.{count_all}
 use Rattle.entry_base.proofs.Sums.{count_append}
 use Rattle.marker.specs.Steals.{objects_of}
-use Rattle.phases.specs.Markings.{CutOff}
+use Rattle.phases.specs.Cuts.{CutOff}
 
 pub CutOff-none : (v : View) → CutOff v [] v
 CutOff-none v = record {

@@ -1,3 +1,4 @@
+pub mod Cuts
 pub mod Markings
 pub mod Phases
 pub mod Sessions

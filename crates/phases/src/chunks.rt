@@ -3,7 +3,7 @@ ghost use Rattle.std.specs.Prelude.{◌≡◌, ◌≤◌, All, IfOk, length};
 ghost use Rattle.entry_base.specs.Lists.{AreIn};
 ghost use Rattle.entry_base.specs.Sessions.{view, IsChunkOf, IsOf};
 ghost use Rattle.marker.specs.Steals.{objects_of};
-ghost use Rattle.phases.specs.Markings.{CutOff};
+ghost use Rattle.phases.specs.Cuts.{CutOff};
 
 use entry_base::{Chunk, Session, Shared};
 use std::alloc::{AllocError, Global};

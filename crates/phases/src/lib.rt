@@ -7,6 +7,7 @@
 #![tactic(auto)]
 
 mod chunks;
+mod markers;
 mod phases;
 
 pub use phases::{PhaseOut, run_phase};

@@ -6,7 +6,7 @@ use Rattle.entry_base.specs.Lists.{AreIn, count_in}
 use Rattle.entry_base.specs.Sessions.{view, IsChunkOf}
 use Rattle.entry_base.specs.Views.{cutter}
 use Rattle.marker.specs.Steals.{objects_of}
-use Rattle.phases.specs.Markings.{CutOff}
+use Rattle.phases.specs.Cuts.{CutOff}
 use Rattle.phases.proofs.Cuts.{CutOff-more, objects_of-append, range_within, rest_within, take_range}
 use Rattle.phases.proofs.chunks.cut_chunks.Goals as goal
 

@@ -3,7 +3,7 @@ use Rattle.std.specs.Prelude.{vec_capacity}
 use Rattle.entry_base.specs.Lists.{AreIn}
 use Rattle.entry_base.specs.Sessions.{view, IsChunkOf, IsOf}
 use Rattle.marker.specs.Steals.{objects_of}
-use Rattle.phases.specs.Markings.{CutOff}
+use Rattle.phases.specs.Cuts.{CutOff}
 use Rattle.phases.proofs.chunks.cut_chunks.Given as goal
 
 abbrev pub invariant-loop-from : goal.invariant-loop-from
