@@ -1,5 +1,5 @@
 // Sharing: a second trusted field is bound to the entry of a first one.
-ghost use Rattle.std.specs.Prelude.{◌≡◌, ◌≢◌, ◌↔◌, ◌⊎◌, ◌<◌, None};
+ghost use Rattle.std.specs.Prelude.{◌≡◌, ◌≢◌, ◌↔◌, ◌⊎◌, ◌<◌, ℕ, None, IfSome};
 ghost use Rattle.plain_table.specs.declared.reports.Reply.TheVariants as reply;
 ghost use Rattle.plain_table.specs.declared.scripts.Op.TheVariants as op;
 ghost use Rattle.entry_base.specs.Openings.{phase_of};
@@ -8,6 +8,7 @@ ghost use Rattle.entry_base.specs.Sessions.{view, held_in, IsOf};
 ghost use Rattle.object_rule.specs.Fields.{IsMarkedInCycle};
 ghost use Rattle.call_base.specs.Called.{Called, LeavesOwn, Made};
 ghost use Rattle.mark_steps.specs.Words.{SawShared};
+ghost use Rattle.trusted_steps.specs.Causes.{HeldWord, IsShareAtEvent};
 ghost use Rattle.trusted_steps.specs.Shares.{SharesEntry, mark_for};
 
 use entry_base::{Session, Shared};
@@ -24,6 +25,7 @@ pub fn share(shared: &Shared, s: &mut Session, from: u32, to: u32) -> Reply
     requires range { (from < 16) × (to < 16) }
     ensures caller { IsOf shared.now s.new }
     ensures made { Made (view s.old) (op.Share from to) result (view s.new) }
+    ensures answer { IfSome (held_in (view s.old) from) (λ source. IfSome (held_in (view s.old) to) (λ target. (word : ℕ) × HeldWord (view s.old) source word (view s.new) × IsShareAtEvent (view s.new) target word result)) }
     ensures leaves { LeavesOwn (view s.old) (view s.new) }
     ensures empty { (result ≡ reply.Empty) ↔ ((held_in (view s.old) from ≡ None) ⊎ (held_in (view s.old) to ≡ None)) }
 {
@@ -42,6 +44,7 @@ fn share_entry(shared: &Shared, s: &mut Session, source: u32, target: u32) -> Re
     requires held { IsHeld (view s.old) source × IsHeld (view s.old) target }
     ensures caller { IsOf shared.now s.new }
     ensures shares { SharesEntry (view s.old) source target result (view s.new) }
+    ensures answer { (word : ℕ) × HeldWord (view s.old) source word (view s.new) × IsShareAtEvent (view s.new) target word result }
     ensures leaves { LeavesOwn (view s.old) (view s.new) }
     ensures some { result ≢ reply.Empty }
 {
