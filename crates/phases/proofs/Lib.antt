@@ -10,3 +10,5 @@ pub mod Cuts
 pub mod Joins
 pub mod Pushes
 pub mod Ready
+pub mod Chosen
+pub mod Marked
