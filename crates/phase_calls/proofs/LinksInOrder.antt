@@ -127,11 +127,11 @@ has-linked_between (Some object) there q held is = subst (λ (x : Option ℕ). H
 -- it answers ok, or empty where a named variable holds nothing. The object that came into the hands, if any, is then linked, and what
 -- is linked in a cycle is known as shaded
 module _ (v w : View) (var k : ℕ) (said : Reply) (few : var < 16) (kinds : (said ≡ reply.Empty) ⊎ (said ≡ reply.Ok)) where
-  came_by : (target : Option ℕ) (own : List Event) → IfSome target (λ t. t < 16) → Made v (op.Link var k target) said w → (q : ℕ) →
+  came_by : (target : Option ℕ) → IfSome target (λ t. t < 16) → (q : ℕ) →
       ((said ≡ reply.Empty) ↔ ((held_in v var ≡ None) ⊎ IsUnheld v target)) → said ≡ reply.Ok → target_in v target ≡ Some q →
       (cycle : Option Cycle) (held : Held) (ticket : OwnTicket) → Suits v cycle held ticket → Has (linked_of held (op.Link var k target)) q
-  came_by None own low made q empty ok is cycle held ticket suits = absurd (cc)
-  came_by (Some t) own low made q empty ok is cycle held ticket suits =
+  came_by None low q empty ok is cycle held ticket suits = absurd (cc)
+  came_by (Some t) low q empty ok is cycle held ticket suits =
       has-linked_between (held var) (held t) q
       (λ (none : held var ≡ None).
       let said_empty = empty.1 (inl (sym (held_suits v var few cycle held ticket suits) ∙ none)) in
@@ -177,5 +177,5 @@ module _ (v w : View) (var k : ℕ) (said : Reply) (few : var < 16) (kinds : (sa
       by None came o there cycle held ticket suits = inl there
       by (Some q) came o (inl new) cycle held ticket suits =
           inr (subst (λ (os : List ℕ). Has os o) (sym (links cycle held ticket suits))
-          (subst (λ (n : ℕ). Has (linked_of held (op.Link var k target)) n) new (came_by target made.own low made q empty came.0 came.1 cycle held ticket suits)))
+          (subst (λ (n : ℕ). Has (linked_of held (op.Link var k target)) n) new (came_by target low q empty came.0 came.1 cycle held ticket suits)))
       by (Some q) came o (inr old) cycle held ticket suits = inl old

@@ -1,6 +1,6 @@
 -- What the events of a call's shape are: the acts that a call makes, what it links to references, and how many external cells it
 -- puts where each bind says ok or taken.
-use Rattle.std.proofs.Common.{◌≡◌, ℕ, ◌+◌, Bool, true, false, List, [], ◌∷◌, ◌++◌, Option, Some, None, refl, sym, ap, subst, ◌∙◌, inl, inr}
+use Rattle.std.proofs.Common.{◌≡◌, ℕ, ◌+◌, Bool, true, false, List, [], ◌∷◌, ◌++◌, Option, Some, None, refl, sym, ap, subst, subst₂, ◌∙◌, inl, inr}
 use Rattle.std.specs.Prelude.{◌≢◌, ◌⊎◌, if◌then◌else◌, MatchOption}
 use Rattle.std.specs.List.{count_by}
 use Rattle.std.specs.Option.{option_to_list}
@@ -19,7 +19,7 @@ use Rattle.plain_table.specs.declared.reports.Reply.TheVariants as reply
 use Rattle.plain_table.specs.Belongs.{is_external_put}
 use Rattle.plain_table.specs.Index.{word_of}
 use Rattle.plain_table.specs.Cycle.{Cycle, is_in_area}
-use Rattle.plain_table.specs.Shapes.{Held, IsEmptyCall, IsInit, IsLink, IsLoad, IsShape, IsShare, IsStore, IsSwap, IsTNew, IsTPub, WithObject, WithTarget, event, external_field, held_next}
+use Rattle.plain_table.specs.Shapes.{Held, IsEmptyCall, IsInit, IsLink, IsLoad, IsShape, IsShare, IsStore, IsSwap, IsTNew, IsTPub, WithObject, event, external_field, held_next}
 use Rattle.table_laws.specs.Steady.{IsDuringPhase}
 use Rattle.entry_base.specs.Lists.{Each}
 use Rattle.phase_calls.specs.Calls.{linked_at, linked_by, puts_by}
@@ -148,6 +148,49 @@ by_call P plain link init (op.Link var k target) = link var k target
 by_call P plain link init (op.Init var f tag value) = init var f tag value
 by_call P plain link init call = plain call tt
 
+-- what holds of no event and of one link holds of the events of a link
+link_case : (P : List Event → Type 0) (b : ℕ) (held : Held) (var k : ℕ) (target : Option ℕ) (said : Reply) (es : List Event) → P [] →
+    ((o : ℕ) → P (event b (Link (Ref o k) target) said ∷ [])) → IsShape b None held None (op.Link var k target) said es → P es
+link_case P b held var k None said es none one shape = by (held var) shape
+  where
+    by : (found : Option ℕ) → MatchOption found (IsEmptyCall said es) (λ o. IsLink b (Ref o k) None said es) → P es
+    by None empty = subst P (sym empty.1) none
+    by (Some o) is = subst P (sym is) (one o)
+link_case P b held var k (Some t) said es none one shape = by (held var) (held t) shape
+  where
+    by : (found there : Option ℕ) →
+        MatchOption found (IsEmptyCall said es) (λ o. MatchOption there (IsEmptyCall said es) (λ q. IsLink b (Ref o k) (Some t) said es)) → P es
+    by None there empty = subst P (sym empty.1) none
+    by (Some o) None empty = subst P (sym empty.1) none
+    by (Some o) (Some q) is = subst P (sym is) (one o)
+
+-- the events of an init that found an index, after its take
+abbrev put_and_bind : ℕ → Field → ℕ → ℕ → ℕ → Reply → List Event
+put_and_bind b place i tag value said = event b (Put External i tag value) reply.Ok ∷ event b (Bind place (word_of i)) said ∷ []
+
+-- what holds of no event, of a take that finds the space full, and of a take, a put and a bind, with an abort between or none, holds of
+-- the events of an init
+init_case : (P : Reply → List Event → Type 0) (b : ℕ) (cycle : Option Cycle) (held : Held) (var f tag value : ℕ) (said : Reply) (es : List Event) →
+    P reply.Empty [] → P reply.Full (event b (Take External) reply.Full ∷ []) →
+    ((place : Field) (i : ℕ) → P said (event b (Take External) (reply.Index i) ∷ put_and_bind b place i tag value said)) →
+    ((place : Field) (i : ℕ) → P said (event b (Take External) (reply.Index i) ∷ event b Abort reply.Ok ∷ put_and_bind b place i tag value said)) →
+    IsShape b cycle held None (op.Init var f tag value) said es → P said es
+init_case P b cycle held var f tag value said es none full put aborted shape = by (held var) shape
+  where
+    taken : (place : Field) (i : ℕ) (inside : Bool) →
+        es ≡ (event b (Take External) (reply.Index i) ∷ (if inside then event b Abort reply.Ok ∷ [] else []) ++ put_and_bind b place i tag value said) →
+        P said es
+    taken place i true is = subst (P said) (sym is) (aborted place i)
+    taken place i false is = subst (P said) (sym is) (put place i)
+
+    init : (place : Field) → IsInit b cycle place tag value said es → P said es
+    init place (inl nothing) = subst₂ P (sym nothing.0) (sym nothing.1) full
+    init place (inr (i, is)) = taken place i (is_in_area cycle i) is
+
+    by : (found : Option ℕ) → MatchOption found (IsEmptyCall said es) (λ o. IsInit b cycle (external_field o f) tag value said es) → P said es
+    by None empty = subst₂ P (sym empty.0) (sym empty.1) none
+    by (Some o) there = init (external_field o f) there
+
 -- the acts
 
 IsCallAct-plain : (a : Act) → IsPlainAct a → IsCallAct a
@@ -159,45 +202,14 @@ AreOfCalls-plain : (es : List Event) → ArePlain es → AreOfCalls es
 AreOfCalls-plain [] plain = tt
 AreOfCalls-plain (e ∷ es) plain = (IsCallAct-plain e.act plain.0, AreOfCalls-plain es plain.1)
 
-link_acts : (b : ℕ) (held : Held) (var k : ℕ) (target : Option ℕ) (said : Reply) (es : List Event) →
-    IsShape b None held None (op.Link var k target) said es → AreOfCalls es
-link_acts b held var k target said es shape = by (held var) target shape
-  where
-    by_target : (o : ℕ) (t : ℕ) (found : Option ℕ) → MatchOption found (IsEmptyCall said es) (λ q. IsLink b (Ref o k) (Some t) said es) → AreOfCalls es
-    by_target o t None empty = subst AreOfCalls (sym empty.1) tt
-    by_target o t (Some q) is = subst AreOfCalls (sym is) (tt, tt)
-
-    by : (found target : Option ℕ) → MatchOption found (IsEmptyCall said es) (λ o. WithTarget held target said es (IsLink b (Ref o k) target said es)) → AreOfCalls es
-    by None target empty = subst AreOfCalls (sym empty.1) tt
-    by (Some o) None is = subst AreOfCalls (sym is) (tt, tt)
-    by (Some o) (Some t) there = by_target o t (held t) there
-
-init_acts : (b : ℕ) (cycle : Option Cycle) (place : Field) (tag value : ℕ) (said : Reply) (es : List Event) →
-    IsInit b cycle place tag value said es → AreOfCalls es
-init_acts b cycle place tag value said es (inl full) = subst AreOfCalls (sym full.1) (tt, tt)
-init_acts b cycle place tag value said es (inr (i, is)) = by (is_in_area cycle i) is
-  where
-    by : (inside : Bool) →
-        es ≡ (event b (Take External) (reply.Index i) ∷ (if inside then event b Abort reply.Ok ∷ [] else []) ++ event b (Put External i tag value) reply.Ok ∷ event b (Bind place (word_of i)) said ∷ []) →
-        AreOfCalls es
-    by true is = subst AreOfCalls (sym is) (tt, (tt, (tt, (tt, tt))))
-    by false is = subst AreOfCalls (sym is) (tt, (tt, (tt, tt)))
-
-init_call_acts : (b : ℕ) (cycle : Option Cycle) (held : Held) (var f tag value : ℕ) (said : Reply) (es : List Event) →
-    IsShape b cycle held None (op.Init var f tag value) said es → AreOfCalls es
-init_call_acts b cycle held var f tag value said es shape = by (held var) shape
-  where
-    by : (found : Option ℕ) → MatchOption found (IsEmptyCall said es) (λ o. IsInit b cycle (external_field o f) tag value said es) → AreOfCalls es
-    by None empty = subst AreOfCalls (sym empty.1) tt
-    by (Some o) there = init_acts b cycle (external_field o f) tag value said es there
-
 pub IsShape-acts : (b : ℕ) (cycle : Option Cycle) (held : Held) (ticket : Option ℕ) (call : Op) (said : Reply) (es : List Event) →
     IsShape b cycle held ticket call said es → AreOfCalls es
 IsShape-acts b cycle held ticket call said es =
     by_call (λ call. IsShape b cycle held ticket call said es → AreOfCalls es)
     (λ call plain shape. AreOfCalls-plain es (IsShape-plain b cycle held ticket call said es plain shape))
-    (λ var k target shape. link_acts b held var k target said es shape)
-    (λ var f tag value shape. init_call_acts b cycle held var f tag value said es shape)
+    (λ var k target. link_case AreOfCalls b held var k target said es tt (λ o. (tt, tt)))
+    (λ var f tag value. init_case (λ said es. AreOfCalls es) b cycle held var f tag value said es tt (tt, tt)
+    (λ place i. (tt, (tt, (tt, tt)))) (λ place i. (tt, (tt, (tt, (tt, tt))))))
     call
 
 -- a test that no act of a call passes counts none of their events
@@ -250,25 +262,6 @@ link_links b held var k (Some t) said es shape = by (held var) (held t) refl sha
     by (Some o) None holds empty = ap (linked_by held) empty.1
     by (Some o) (Some q) holds is = ap (linked_by held) is ∙ ap (λ (x : Option ℕ). option_to_list x ++ []) (sym holds)
 
-init_links : (b : ℕ) (cycle : Option Cycle) (held : Held) (place : Field) (tag value : ℕ) (said : Reply) (es : List Event) →
-    IsInit b cycle place tag value said es → linked_by held es ≡ []
-init_links b cycle held place tag value said es (inl full) = ap (linked_by held) full.1
-init_links b cycle held place tag value said es (inr (i, is)) = by (is_in_area cycle i) is
-  where
-    by : (inside : Bool) →
-        es ≡ (event b (Take External) (reply.Index i) ∷ (if inside then event b Abort reply.Ok ∷ [] else []) ++ event b (Put External i tag value) reply.Ok ∷ event b (Bind place (word_of i)) said ∷ []) →
-        linked_by held es ≡ []
-    by true is = ap (linked_by held) is
-    by false is = ap (linked_by held) is
-
-init_call_links : (b : ℕ) (cycle : Option Cycle) (held : Held) (var f tag value : ℕ) (said : Reply) (es : List Event) →
-    IsShape b cycle held None (op.Init var f tag value) said es → linked_by held es ≡ []
-init_call_links b cycle held var f tag value said es shape = by (held var) shape
-  where
-    by : (found : Option ℕ) → MatchOption found (IsEmptyCall said es) (λ o. IsInit b cycle (external_field o f) tag value said es) → linked_by held es ≡ []
-    by None empty = ap (linked_by held) empty.1
-    by (Some o) there = init_links b cycle held (external_field o f) tag value said es there
-
 -- the events of a shape link what the call does
 pub linked_by-shape : (b : ℕ) (cycle : Option Cycle) (held : Held) (ticket : Option ℕ) (call : Op) (said : Reply) (es : List Event) →
     IsShape b cycle held ticket call said es → linked_by held es ≡ linked_of held call
@@ -276,7 +269,7 @@ linked_by-shape b cycle held ticket call said es =
     by_call (λ call. IsShape b cycle held ticket call said es → linked_by held es ≡ linked_of held call)
     (λ call plain shape. linked_by-plain held es (IsShape-plain b cycle held ticket call said es plain shape) ∙ linked_of-plain held call plain)
     (λ var k target shape. link_links b held var k target said es shape)
-    (λ var f tag value shape. init_call_links b cycle held var f tag value said es shape)
+    (λ var f tag value. init_case (λ said es. linked_by held es ≡ []) b cycle held var f tag value said es refl refl (λ place i. refl) (λ place i. refl))
     call
 
 -- what is put
@@ -309,45 +302,11 @@ puts_by-plain : (call : Op) (said : Reply) → IsPlainCall call → 0 ≡ puts_b
 puts_by-plain (op.Init var f tag value) said plain = absurd plain
 puts_by-plain _ said plain = refl
 
-link_puts : (b : ℕ) (held : Held) (var k : ℕ) (target : Option ℕ) (said : Reply) (es : List Event) →
-    IsShape b None held None (op.Link var k target) said es → puts_in es ≡ 0
-link_puts b held var k target said es shape = by (held var) target shape
-  where
-    by_target : (o : ℕ) (t : ℕ) (found : Option ℕ) → MatchOption found (IsEmptyCall said es) (λ q. IsLink b (Ref o k) (Some t) said es) → puts_in es ≡ 0
-    by_target o t None empty = ap puts_in empty.1
-    by_target o t (Some q) is = ap puts_in is
-
-    by : (found target : Option ℕ) → MatchOption found (IsEmptyCall said es) (λ o. WithTarget held target said es (IsLink b (Ref o k) target said es)) → puts_in es ≡ 0
-    by None target empty = ap puts_in empty.1
-    by (Some o) None is = ap puts_in is
-    by (Some o) (Some t) there = by_target o t (held t) there
-
 -- an init that found an index ends with a bind, which says ok or taken
 bind_puts : (var f tag value : ℕ) (said : Reply) → (said ≡ reply.Ok) ⊎ ((found : ℕ) × (said ≡ reply.Taken found)) →
     1 ≡ puts_by (op.Init var f tag value) said
 bind_puts var f tag value said (inl ok) = ap (puts_by (op.Init var f tag value)) (sym ok)
 bind_puts var f tag value said (inr (found, taken)) = ap (puts_by (op.Init var f tag value)) (sym taken)
-
-init_puts : (b : ℕ) (cycle : Option Cycle) (place : Field) (var f tag value : ℕ) (said : Reply) (es : List Event) →
-    Each BindsSay es → IsInit b cycle place tag value said es → puts_in es ≡ puts_by (op.Init var f tag value) said
-init_puts b cycle place var f tag value said es says (inl full) =
-    ap puts_in full.1 ∙ ap (puts_by (op.Init var f tag value)) (sym full.0)
-init_puts b cycle place var f tag value said es says (inr (i, is)) = by (is_in_area cycle i) is
-  where
-    by : (inside : Bool) →
-        es ≡ (event b (Take External) (reply.Index i) ∷ (if inside then event b Abort reply.Ok ∷ [] else []) ++ event b (Put External i tag value) reply.Ok ∷ event b (Bind place (word_of i)) said ∷ []) →
-        puts_in es ≡ puts_by (op.Init var f tag value) said
-    by true is = let each = subst (Each BindsSay) is says in ap puts_in is ∙ bind_puts var f tag value said each.1.1.1.0
-    by false is = let each = subst (Each BindsSay) is says in ap puts_in is ∙ bind_puts var f tag value said each.1.1.0
-
-init_call_puts : (b : ℕ) (cycle : Option Cycle) (held : Held) (var f tag value : ℕ) (said : Reply) (es : List Event) →
-    Each BindsSay es → IsShape b cycle held None (op.Init var f tag value) said es → puts_in es ≡ puts_by (op.Init var f tag value) said
-init_call_puts b cycle held var f tag value said es says shape = by (held var) shape
-  where
-    by : (found : Option ℕ) → MatchOption found (IsEmptyCall said es) (λ o. IsInit b cycle (external_field o f) tag value said es) →
-        puts_in es ≡ puts_by (op.Init var f tag value) said
-    by None empty = ap puts_in empty.1 ∙ ap (puts_by (op.Init var f tag value)) (sym empty.0)
-    by (Some o) there = init_puts b cycle (external_field o f) var f tag value said es says there
 
 -- the events of a shape put what the call does, by its reply
 pub puts_in-shape : (b : ℕ) (cycle : Option Cycle) (held : Held) (ticket : Option ℕ) (call : Op) (said : Reply) (es : List Event) →
@@ -355,6 +314,7 @@ pub puts_in-shape : (b : ℕ) (cycle : Option Cycle) (held : Held) (ticket : Opt
 puts_in-shape b cycle held ticket call said es says =
     by_call (λ call. IsShape b cycle held ticket call said es → puts_in es ≡ puts_by call said)
     (λ call plain shape. puts_in-plain es (IsShape-plain b cycle held ticket call said es plain shape) ∙ puts_by-plain call said plain)
-    (λ var k target shape. link_puts b held var k target said es shape)
-    (λ var f tag value shape. init_call_puts b cycle held var f tag value said es says shape)
+    (λ var k target. link_case (λ es. puts_in es ≡ 0) b held var k target said es refl (λ o. refl))
+    (λ var f tag value shape. init_case (λ said es. Each BindsSay es → puts_in es ≡ puts_by (op.Init var f tag value) said) b cycle held var f tag value said es
+    (λ says. refl) (λ says. refl) (λ place i says. bind_puts var f tag value said says.1.1.0) (λ place i says. bind_puts var f tag value said says.1.1.1.0) shape says)
     call
