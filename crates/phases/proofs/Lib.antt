@@ -8,3 +8,9 @@ pub mod Scanned
 pub mod Closed
 pub mod Pushed
 pub mod Working
+pub mod Cuts
+pub mod Joins
+pub mod Pushes
+pub mod Ready
+pub mod Chosen
+pub mod Marked
