@@ -1,5 +1,5 @@
 -- The work of a phase, from its opening to the session that took all workers in.
-use Rattle.std.proofs.Common.{◌≡◌, ◌≢◌, ◌⊎◌, ℕ, zero, suc, ◌+◌, ◌<◌, ◌≤◌, nat_lt, Bool, true, List, [], ◌∷◌, ◌++◌, Option, Some, None, length, map, get_or, refl, sym, ap, subst, ◌∙◌, inl, inr, ⊎_elim, arith, append-nil}
+use Rattle.std.proofs.Common.{◌≡◌, ◌≢◌, ◌⊎◌, ℕ, zero, suc, ◌+◌, ◌<◌, ◌≤◌, nat_lt, ◌==◌, if◌then◌else◌, Bool, true, false, List, [], ◌∷◌, ◌++◌, Option, Some, None, length, map, get_or, slice_index, refl, sym, ap, subst, ◌∙◌, inl, inr, ⊎_elim, arith, append-nil}
 use Rattle.std.proofs.lemmas.Bool.Decides.{nat_tests}
 use Rattle.std.proofs.lemmas.List.{length-map}
 use Rattle.plain_table.specs.declared.scripts.Limits.{Limits}
@@ -7,7 +7,7 @@ use Rattle.plain_table.specs.declared.scripts.Op.{Op}
 use Rattle.plain_table.specs.declared.reports.Reply.{Reply}
 use Rattle.plain_table.specs.Cycle.{Cycle}
 use Rattle.plain_table.specs.Table.{Sizes, Table}
-use Rattle.plain_table.specs.Words.{phase_word}
+use Rattle.plain_table.specs.Words.{header_place, phase_word}
 use Rattle.word_laws.specs.Small.{AreSmall}
 use Rattle.entry_base.specs.declared.table.Shared.{Shared}
 use Rattle.entry_base.specs.declared.view.Opening.{Opening}
@@ -27,9 +27,10 @@ use Rattle.phases.specs.Markings.{DealtOut}
 use Rattle.phases.specs.Phases.{CanRun}
 use Rattle.phases.specs.Sessions.{GaveOut, IsGiven, TookIn}
 use Rattle.phases.specs.Workers.{CalledAll, Worked, WorkedAlone}
-use Rattle.phases.proofs.Lists.{count-has}
+use Rattle.marker.proofs.Counts.{length_few}
+use Rattle.phases.proofs.Lists.{Each-has, count-has}
 use Rattle.phases.proofs.Played.{Played, Played-worker}
-use Rattle.phases.proofs.Scanned.{grey-outside}
+use Rattle.phases.proofs.Scanned.{grey-outside, grey-some}
 use Rattle.phases.proofs.Whole.{MarkersWorked, MarkersWorked-none, worked}
 
 -- an element by its place, and an element of a list that another was made of
@@ -43,11 +44,31 @@ map-at f (x ∷ xs) zero d e low = refl
 map-at f (x ∷ xs) (suc i) d e low = map-at f xs i d e (omega (arith, low))
 
 -- the first session has each number up to 12
-first_numbers : (key : Opening) (n : ℕ) → n ≤ 12 → HasNumber (first_view key) n
+pub first_numbers : (key : Opening) (n : ℕ) → n ≤ 12 → HasNumber (first_view key) n
 first_numbers key n low =
     let c = count_numbers 13 n in
     let t : bit (nat_lt n 13) ≡ 1 = ap bit (let t : nat_lt n 13 ≡ true = grind (arith, nat_tests) in t) in
     omega arith
+
+-- what is to scan is within the limit, and stands in the hands of the first session, once
+grey-once : (z : Sizes) (words : List ℕ) (o : ℕ) → grey z words o ≤ 1
+grey-once z words o = by (nat_lt o z.objects) (slice_index words (header_place o) == 1)
+  where
+    by : (a b : Bool) → (if a then (if b then 1 else 0) else 0) ≤ 1
+    by true true = omega arith
+    by true false = omega arith
+    by false b = omega arith
+
+pub owed-few : (key : Opening) → AreSmall (sizes_in key) → (owed : List ℕ) → ((o : ℕ) → count_in o owed ≡ grey (sizes_in key) key.words o) → length owed ≤ 16384
+owed-few key small owed owed_is =
+    let few = length_few (sizes_in key).objects owed (Each-has (λ o. o < (sizes_in key).objects) owed (λ o has. (grey-some (sizes_in key) key.words o (let c = count-has o owed has in let e = owed_is o in omega (arith, c, e))).0))
+    (λ o. let e = owed_is o in let g = grey-once (sizes_in key) key.words o in omega (arith, e, g)) in
+    let most = small.objects in
+    omega (arith, few, most)
+
+pub owed-held : (key : Opening) (many : ℕ) (first : View) → GaveOut (first_view key) 0 many first → (owed : List ℕ) → ((o : ℕ) → count_in o owed ≡ grey (sizes_in key) key.words o) →
+    (o : ℕ) → count_in o first.hands ≡ count_in o owed
+owed-held key many first gave owed owed_is o = ap (count_in o) gave.hands ∙ count_greys key.words (sizes_in key).objects o ∙ sym (owed_is o)
 
 -- outside a cycle nothing is to scan
 outside : (key : Opening) (s : Table) → IsBase key s → phase_of key ≢ 1 → (o : ℕ) → grey (sizes_in key) key.words o ≡ 0
@@ -88,7 +109,7 @@ module _ (limits : Limits) (key : Opening) (open_with : IsOpenable key) (calls :
   first_rest n low past = gave.rest n (first_numbers key n low) (inr (let l = can.lists in omega (arith, past, l)))
 
   first_hands : (o : ℕ) → count_in o first.hands ≡ count_in o owed
-  first_hands o = ap (count_in o) gave.hands ∙ count_greys key.words (sizes_in key).objects o ∙ sym (owed_is o)
+  first_hands = owed-held key (length calls) first gave owed owed_is
 
   -- without markers
   pub worked-alone : (w : View) → TookIn first (map (λ (x : Worker). view x.session) after) w → IsPhaseHistory w.opening w.seen → (limits.markers ≡ 0) ⊎ (phase_of key ≢ 1) → Worked limits key calls owed replies 0 w
