@@ -1,17 +1,13 @@
 -- A phase that was worked whole, and closed.
-use Rattle.std.proofs.Common.{◌≡◌, ◌⊎◌, ℕ, ◌+◌, ◌<◌, ◌≤◌, List, [], length, slice_index, refl, sym, ap, subst, ◌∙◌, inl, inr, ⊎_elim, arith}
+use Rattle.std.proofs.Common.{◌≡◌, ◌⊎◌, ℕ, ◌<◌, List, [], sym, subst, inl, inr, arith}
 use Rattle.std.proofs.lemmas.Bool.{cases_lt}
-use Rattle.std.specs.List.{Any, Contains}
+use Rattle.std.specs.List.{Contains}
 use Rattle.plain_table.specs.declared.scripts.Limits.{Limits}
 use Rattle.plain_table.specs.declared.scripts.Op.{Op}
-use Rattle.plain_table.specs.declared.events.Act.TheVariants.{Scan}
-use Rattle.plain_table.specs.declared.events.Event.{Event}
-use Rattle.plain_table.specs.declared.reports.Reply.{Reply}
-use Rattle.plain_table.specs.Belongs.{IsMarker, IsScannedIn}
+use Rattle.plain_table.specs.Belongs.{IsScannedIn}
 use Rattle.plain_table.specs.History.{after}
 use Rattle.plain_table.specs.Sweeps.{linked_after}
 use Rattle.plain_table.specs.Table.{Sizes, Table}
-use Rattle.plain_table.specs.Words.{header_place}
 use Rattle.entry_base.specs.declared.view.Opening.{Opening}
 use Rattle.entry_base.specs.declared.view.View.{View}
 use Rattle.entry_base.specs.Callers.{IsClosed}

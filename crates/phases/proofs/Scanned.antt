@@ -1,5 +1,5 @@
 -- Objects that were scanned in a history: they stay scanned, and the words of the table after it say so.
-use Rattle.std.proofs.Common.{◌≡◌, ◌⊎◌, ℕ, zero, suc, ◌+◌, ◌<◌, ◌≤◌, ◌==◌, nat_le, nat_lt, ◌||◌, if◌then◌else◌, Bool, true, false, List, [], ◌∷◌, Option, Some, None, IsTrue, slice_index, refl, sym, ap, subst, ◌∙◌, inl, inr, ⊎_elim, arith}
+use Rattle.std.proofs.Common.{◌≡◌, ℕ, zero, suc, ◌<◌, ◌≤◌, ◌==◌, nat_le, nat_lt, ◌||◌, if◌then◌else◌, Bool, true, false, List, [], ◌∷◌, Option, Some, None, IsTrue, slice_index, refl, sym, ap, subst, ◌∙◌, inl, inr, arith}
 use Rattle.std.specs.Prelude.{IsSomeAnd}
 use Rattle.std.proofs.lemmas.Bool.Decides.{nat_tests}
 use Rattle.plain_table.specs.declared.events.Act.TheVariants.{Scan}
@@ -8,7 +8,7 @@ use Rattle.plain_table.specs.Cycle.{Cycle, scanned_in}
 use Rattle.plain_table.specs.History.{IsLegal, IsLegalHistory, after, next}
 use Rattle.plain_table.specs.Places.{put_at}
 use Rattle.plain_table.specs.Rows.{InCycle, row}
-use Rattle.plain_table.specs.Shows.{IsHeader, IsShaded, Shows, is_black}
+use Rattle.plain_table.specs.Shows.{IsHeader, Shows, is_black}
 use Rattle.plain_table.specs.Sound.{IsSound}
 use Rattle.plain_table.specs.Table.{Sizes, Table}
 use Rattle.plain_table.specs.Words.{header_place, header_word}

@@ -1,5 +1,5 @@
 -- What a session that was given a mutator's number knows of the table that the phase began in.
-use Rattle.std.proofs.Common.{◌≡◌, ℕ, ◌+◌, ◌*◌, ◌<◌, List, Option, Some, None, slice_index, slice_index_or, option_map, refl, sym, ap, subst, ◌∙◌, arith}
+use Rattle.std.proofs.Common.{◌≡◌, ℕ, ◌+◌, ◌*◌, ◌<◌, List, Option, Some, None, slice_index, slice_index_or, option_map, refl, sym, ap, subst, ◌∙◌}
 use Rattle.std.specs.Prelude.{IsSomeAnd}
 use Rattle.std.proofs.lemmas.Option.{same_Some}
 use Rattle.plain_table.specs.declared.events.Cell.{Cell}
@@ -7,14 +7,12 @@ use Rattle.plain_table.specs.declared.events.Space.TheVariants.{Trusted}
 use Rattle.plain_table.specs.Shapes.{with_ticket}
 use Rattle.plain_table.specs.Shows.{IsPending, PendingCell}
 use Rattle.plain_table.specs.Table.{Table}
-use Rattle.plain_table.specs.Words.{object_word}
 use Rattle.word_laws.specs.Small.{AreSmall}
 use Rattle.word_laws.proofs.AreaReads.{AreaWordsTell-shown}
 use Rattle.entry_word.specs.declared.image.Pending.{Pending}
 use Rattle.entry_base.specs.declared.view.Opening.{Opening}
 use Rattle.entry_base.specs.declared.view.View.{View}
 use Rattle.entry_base.specs.Openings.{IsBase, pending_cell, phase_of, sizes_in, start_of}
-use Rattle.entry_base.specs.Sessions.{ticket_in}
 use Rattle.entry_base.proofs.OpenKeeps.{pending_read}
 use Rattle.call_base.specs.Called.{Suits}
 

@@ -1,10 +1,8 @@
 -- Sessions that are taken in one after another.
-use Rattle.std.proofs.Common.{◌≡◌, ℕ, ◌+◌, ◌≤◌, List, [], ◌∷◌, ◌++◌, refl, sym, ap, subst, ◌∙◌, inl, inr, arith}
-use Rattle.plain_table.specs.Belongs.{events_by}
-use Rattle.entry_base.specs.declared.view.Fact.{Fact}
+use Rattle.std.proofs.Common.{ℕ, ◌≤◌, List, [], ◌∷◌, ◌++◌, refl, ap, ◌∙◌, inl, inr, arith}
 use Rattle.entry_base.specs.declared.view.View.{View}
 use Rattle.entry_base.specs.Joins.{Joined}
-use Rattle.entry_base.specs.Lists.{Each, Has, StartsWith, count_in, total}
+use Rattle.entry_base.specs.Lists.{Each, count_in, total}
 use Rattle.entry_base.specs.Numbers.{HasNumber}
 use Rattle.entry_base.proofs.Sums.{count_append, each_append, each_map, starts_self, starts_trans, total_append}
 use Rattle.phases.specs.Sessions.{TookIn}

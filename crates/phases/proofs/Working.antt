@@ -1,5 +1,5 @@
 -- The work of a phase, from its opening to the session that took all workers in.
-use Rattle.std.proofs.Common.{◌≡◌, ◌≢◌, ◌⊎◌, ℕ, zero, suc, ◌+◌, ◌<◌, ◌≤◌, nat_lt, ◌==◌, if◌then◌else◌, Bool, true, false, List, [], ◌∷◌, ◌++◌, Option, Some, None, length, map, get_or, slice_index, refl, sym, ap, subst, ◌∙◌, inl, inr, ⊎_elim, arith, append-nil}
+use Rattle.std.proofs.Common.{◌≡◌, ◌≢◌, ◌⊎◌, ℕ, zero, suc, ◌<◌, ◌≤◌, nat_lt, ◌==◌, if◌then◌else◌, Bool, true, false, List, [], ◌∷◌, ◌++◌, Option, Some, None, length, map, get_or, slice_index, refl, sym, ap, subst, ◌∙◌, inr, ⊎_elim, arith, append-nil}
 use Rattle.std.proofs.lemmas.Bool.Decides.{nat_tests}
 use Rattle.std.proofs.lemmas.List.{length-map}
 use Rattle.plain_table.specs.declared.scripts.Limits.{Limits}
@@ -17,16 +17,15 @@ use Rattle.entry_base.specs.Histories.{IsPhaseHistory}
 use Rattle.entry_base.specs.Lists.{Has, count_in}
 use Rattle.entry_base.specs.Numbers.{HasNumber}
 use Rattle.entry_base.specs.Openings.{IsBase, IsOpenable, phase_of, sizes_in}
-use Rattle.entry_base.specs.Sessions.{opened_with, view}
-use Rattle.entry_base.specs.Views.{first_view, numbers_below}
+use Rattle.entry_base.specs.Sessions.{view}
+use Rattle.entry_base.specs.Views.{first_view}
 use Rattle.entry_base.proofs.Sums.{has_count}
 use Rattle.entry_base.proofs.OpenKeeps.{bit, count_greys, count_numbers}
 use Rattle.phases.specs.declared.mutators.Worker.{Worker}
-use Rattle.phases.specs.Cuts.{CutOff}
 use Rattle.phases.specs.Markings.{DealtOut}
 use Rattle.phases.specs.Phases.{CanRun}
 use Rattle.phases.specs.Sessions.{GaveOut, IsGiven, TookIn}
-use Rattle.phases.specs.Workers.{CalledAll, Worked, WorkedAlone}
+use Rattle.phases.specs.Workers.{CalledAll, Worked}
 use Rattle.marker.proofs.Counts.{length_few}
 use Rattle.phases.proofs.Lists.{Each-has, count-has}
 use Rattle.phases.proofs.Played.{Played, Played-worker}

@@ -1,10 +1,9 @@
 -- What a phase leaves: one history for each table that the phase may have begun in, whose events are the calls of the mutators and
 -- the scans of the markers; the image of the table after it; and what is then still to be scanned.
-use Rattle.std.specs.Prelude.{◌≡◌, ◌⊎◌, ℕ, ◌+◌, ◌<◌, ◌≤◌, Bool, true, false, List, [], length, slice_index_or}
+use Rattle.std.specs.Prelude.{◌≡◌, ◌⊎◌, ℕ, ◌<◌, ◌≤◌, Bool, true, false, List, [], length, slice_index_or}
 use Rattle.std.specs.List.{All, Contains, count_by}
 use Rattle.plain_table.specs.declared.scripts.Limits.{Limits}
 use Rattle.plain_table.specs.declared.scripts.Op.{Op}
-use Rattle.plain_table.specs.declared.scripts.Phase.{Phase}
 use Rattle.plain_table.specs.declared.events.Act.{Act}
 use Rattle.plain_table.specs.declared.events.Act.TheVariants.{Scan}
 use Rattle.plain_table.specs.declared.events.Event.{Event}

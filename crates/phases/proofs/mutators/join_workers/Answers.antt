@@ -1,5 +1,5 @@
 -- Each turn takes one session more in.
-use Rattle.std.proofs.Common.{◌≡◌, ◌≤◌, ◌<◌, ◌∙◌, ◌++◌, ◌∷◌, [], ℕ, List, length, map, length-append, sym, ap, subst, arith, append-nil, append_assoc}
+use Rattle.std.proofs.Common.{◌≡◌, ◌∙◌, ◌++◌, ◌∷◌, [], List, length, map, sym, ap, subst, arith, append-nil, append_assoc}
 use Rattle.std.proofs.lemmas.List.{length-map, map-append, nil_from_length}
 use Rattle.plain_table.specs.declared.reports.Reply.{Reply}
 use Rattle.entry_base.specs.declared.view.View.{View}
@@ -7,7 +7,7 @@ use Rattle.entry_base.specs.Sessions.{view, IsOf}
 use Rattle.phases.specs.declared.mutators.Worker.{Worker}
 use Rattle.phases.specs.Sessions.{TookIn}
 use Rattle.phases.proofs.Pushed.{next-below, next-there}
-use Rattle.phases.proofs.Taken.{TookIn-more, TookIn-none}
+use Rattle.phases.proofs.Taken.{TookIn-more}
 use Rattle.phases.proofs.mutators.join_workers.Goals as goal
 
 pub loop-worker-preserved : goal.loop-worker-preserved

@@ -1,5 +1,5 @@
 -- Each worker makes the calls of its place.
-use Rattle.std.proofs.Common.{◌≡◌, ◌≤◌, ◌<◌, [], ℕ, length, slice_index_or, sym, subst, arith, rules}
+use Rattle.std.proofs.Common.{[], slice_index_or, sym, subst, arith, rules}
 use Rattle.phases.specs.declared.mutators.Worker.{Worker}
 use Rattle.phases.specs.Workers.{HasCalled, MayCall}
 use Rattle.phases.proofs.mutators.run_workers.Goals as goal

@@ -1,7 +1,6 @@
 -- Each turn gives out one number more.
-use Rattle.std.proofs.Common.{◌≡◌, ◌≤◌, ◌<◌, ◌+◌, ℕ, [], ◌∷◌, ◌++◌, List, length, slice_index_or, length-append, sym, ap, subst, ◌∙◌, inl, inr, arith}
+use Rattle.std.proofs.Common.{◌≡◌, ◌<◌, [], ◌∷◌, ◌++◌, length, slice_index_or, length-append, sym, ap, subst, ◌∙◌, arith}
 use Rattle.std.proofs.lemmas.List.{get_or_default}
-use Rattle.plain_table.specs.declared.scripts.Op.{Op}
 use Rattle.entry_base.specs.Sessions.{view}
 use Rattle.phases.specs.declared.mutators.Worker.{Worker}
 use Rattle.phases.specs.Sessions.{GaveOut, IsGiven}

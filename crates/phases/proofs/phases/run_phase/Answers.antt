@@ -1,5 +1,5 @@
 -- The phase is that of the image: the table was opened with it.
-use Rattle.std.proofs.Common.{◌≡◌, ◌≤◌, ℕ, List, length, slice_index_or, sym, ap, subst, ◌∙◌}
+use Rattle.std.proofs.Common.{◌≡◌, List, slice_index_or, sym, ap, subst, ◌∙◌}
 use Rattle.plain_table.specs.declared.reports.Reply.{Reply}
 use Rattle.plain_table.specs.declared.scripts.Op.{Op}
 use Rattle.word_laws.specs.Small.{AreSmall}
@@ -9,7 +9,7 @@ use Rattle.entry_base.specs.declared.view.View.{View}
 use Rattle.entry_base.specs.Hands.{grey}
 use Rattle.entry_base.specs.Lists.{count_in}
 use Rattle.entry_base.specs.Openings.{IsOpenable, opening_of, sizes_in}
-use Rattle.entry_base.specs.Sessions.{view}
+use Rattle.entry_base.specs.Sessions.{opened_with, view}
 use Rattle.entry_base.specs.Views.{first_view}
 use Rattle.phases.specs.declared.phases.PhaseOut.{PhaseOut}
 use Rattle.phases.specs.Sessions.{IsGiven}
@@ -42,7 +42,7 @@ returns g c =
     record {
       ran = ran c.args.limits.now (opening_of c.args.image) c.args.phase.now.calls c.args.owed.now out w (c.in_ok-scans.ensures.caller.1.opened ∙ opened)
           (subst (λ (k : Opening). Worked c.args.limits.now k c.args.phase.now.calls c.args.owed.now c.from_vec.result c.in_ok-scans.scans w) opened
-          (subst (λ (cs : List (List Op)). Worked c.args.limits.now _ cs c.args.owed.now c.from_vec.result c.in_ok-scans.scans w) c.as_slice-calls.ensures
-          (subst (λ (rs : List (List Reply)). Worked c.args.limits.now _ c.as_slice-calls.result.now c.args.owed.now rs c.in_ok-scans.scans w) (sym c.from_vec.ensures) c.in_ok-scans.ensures.worked)))
+          (subst (λ (cs : List (List Op)). Worked c.args.limits.now (opened_with c.in_ok-shared.shared) cs c.args.owed.now c.from_vec.result c.in_ok-scans.scans w) c.as_slice-calls.ensures
+          (subst (λ (rs : List (List Reply)). Worked c.args.limits.now (opened_with c.in_ok-shared.shared) c.as_slice-calls.result.now c.args.owed.now rs c.in_ok-scans.scans w) (sym c.from_vec.ensures) c.in_ok-scans.ensures.worked)))
           c.finish-image.ensures.closed c.finish-image.ensures.left c.shaded_objects-shaded.ensures.listed;
     }

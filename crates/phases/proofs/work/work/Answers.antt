@@ -1,8 +1,7 @@
 -- With markers in a cycle, and without them, the work is whole.
-use Rattle.std.proofs.Common.{◌≡◌, ◌≢◌, ◌⊎◌, ◌≤◌, ◌<◌, ◌==◌, ℕ, Bool, true, false, List, length, map, sym, ap, subst, ◌∙◌, inl, inr, arith}
+use Rattle.std.proofs.Common.{◌≡◌, ◌≢◌, ◌⊎◌, ◌≤◌, ◌==◌, true, length, map, sym, ap, subst, ◌∙◌, inl, inr, arith}
 use Rattle.std.proofs.lemmas.Bool.Decides.{nat_tests}
 use Rattle.entry_base.specs.Histories.{IsPhaseHistory}
-use Rattle.entry_base.specs.Lists.{count_in}
 use Rattle.entry_base.specs.Openings.{phase_of}
 use Rattle.entry_base.specs.Sessions.{opened_with, view}
 use Rattle.phases.specs.declared.markers.Marking.{Marking}

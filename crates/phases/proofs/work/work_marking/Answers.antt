@@ -1,12 +1,9 @@
 -- The workers are taken in as they are after they ran.
-use Rattle.std.proofs.Common.{◌≡◌, ◌≤◌, ◌<◌, ◌++◌, ℕ, List, All, length, map, slice_index_or, sym, ap, subst, ◌∙◌, arith}
+use Rattle.std.proofs.Common.{◌≡◌, ◌<◌, ℕ, List, All, length, map, slice_index_or, sym, ap, subst, ◌∙◌, arith}
 use Rattle.std.proofs.lemmas.List.{with_items_is}
-use Rattle.plain_table.specs.declared.reports.Reply.{Reply}
 use Rattle.entry_base.specs.declared.chunks.Chunk.{Chunk}
-use Rattle.entry_base.specs.declared.view.View.{View}
 use Rattle.entry_base.specs.Lists.{total}
 use Rattle.entry_base.specs.Sessions.{view}
-use Rattle.chunk_pool.specs.Thieves.{claims_of}
 use Rattle.phases.specs.declared.markers.Marking.{Marking}
 use Rattle.phases.specs.declared.mutators.Worker.{Worker}
 use Rattle.phases.specs.Markings.{EachOnce, HasEnded, HasMarked, HaveEnded}
