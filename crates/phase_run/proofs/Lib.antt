@@ -1,0 +1,3 @@
+pub mod PhaseHistories
+pub mod MeetRuns
+pub mod Listed
