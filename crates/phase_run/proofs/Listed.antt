@@ -23,15 +23,15 @@ use Rattle.sweeper.proofs.HeaderReads.{header-cases}
 use Rattle.mutator_calls.proofs.CycleEnds.{owed-few}
 
 -- how often a number stands in a list
-has-counted : (xs : List ℕ) (o : ℕ) → Has xs o → 1 ≤ count_in o xs
+pub has-counted : (xs : List ℕ) (o : ℕ) → Has xs o → 1 ≤ count_in o xs
 has-counted [] o has = absurd has
 has-counted (x ∷ xs) o (inl same) = let is : (o == x) ≡ true = grind (arith, nat_tests) in let one = ap (λ (t : Bool). (if t then 1 else 0) + count_in o xs) is in omega (arith, one)
 has-counted (x ∷ xs) o (inr later) = let rest = has-counted xs o later in omega (arith, rest)
 
-contains-counted : (xs : List ℕ) (o : ℕ) → Contains xs o → 1 ≤ count_in o xs
+pub contains-counted : (xs : List ℕ) (o : ℕ) → Contains xs o → 1 ≤ count_in o xs
 contains-counted xs o there = has-counted xs o (Has-contains xs o there)
 
-counted-contains : (xs : List ℕ) (o : ℕ) → 1 ≤ count_in o xs → Contains xs o
+pub counted-contains : (xs : List ℕ) (o : ℕ) → 1 ≤ count_in o xs → Contains xs o
 counted-contains xs o some = Contains-has xs o (has_count o xs some)
 
 -- where no two places have the same, each stands in it once at most

@@ -1,14 +1,13 @@
 // The calls and scans of a phase: an image is taken out of its mutator, the phase runs on it, and it is put in again.
-ghost use Rattle.std.specs.Prelude.{◌≡◌, ◌<◌, ◌≤◌, length, take, slice_index, IfOk};
+ghost use Rattle.std.specs.Prelude.{◌≡◌, ◌≤◌, length, take, slice_index, IfOk};
 ghost use Rattle.plain_table.specs.Table.{opening};
-ghost use Rattle.plain_table.specs.Words.{area_place, phase_place};
+ghost use Rattle.plain_table.specs.Words.{phase_place};
 ghost use Rattle.entry_word.specs.Image.{sizes_of};
-ghost use Rattle.entry_base.specs.Openings.{opening_of, start_of};
 ghost use Rattle.mutator_calls.specs.Calls.{IsReady};
 ghost use Rattle.phases.specs.Phases.{CanRun};
 ghost use Rattle.phase_run.specs.Run.{WorksEach};
 
-use entry_word::Image;
+use entry_base::area_start;
 use mutator_calls::Mutator;
 use phase_calls::Gate;
 use phases::{PhaseOut, run_phase};
@@ -16,9 +15,6 @@ use plain_table::{Limits, OutOfMemory, Phase, Reply};
 use sqlite_items::Items;
 use std::alloc::Global;
 use std::thread::Threads;
-
-/// The place of the area word.
-const AREA: usize = 1;
 
 /// What the calls and scans of a phase leave.
 #[derive(Drop)]
@@ -71,15 +67,6 @@ pub fn work<R: Threads + Sync, G: Gate>(
         },
         replies,
     })
-}
-
-/// Where the evacuation area of the cycle under way begins, by the area word: its lower half is 0 where there is none.
-fn area_start(image: &Image) -> Option<u32>
-    requires { area_place < length image.now.words.items }
-    ensures { result ≡ start_of (opening_of image.now) }
-{
-    let start = image.words[AREA] as u32;
-    if start == 0 { None } else { Some(start) }
 }
 
 /// The list begins with these objects.

@@ -1,7 +1,5 @@
 -- A meet does nothing, or starts or finishes a cycle.
 use Rattle.phase_run.proofs.MeetRuns.{meets_to_finish, meets_to_start}
-use Rattle.phase_run.proofs.PhaseHistories.{refs-after}
-use Rattle.phase_run.proofs.Listed.{AreOwed-few}
 use Rattle.phase_run.proofs.meets.hold_meet.Goals as goal
 
 pub returns-in_ok-start-in-Start-clause-meets : goal.returns-in_ok-start-in-Start-clause-meets
