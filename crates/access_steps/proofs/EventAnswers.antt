@@ -70,7 +70,7 @@ pub IsWordAtEvent-number : (w : View) (number other : ℕ) (said : Reply) → So
 IsWordAtEvent-number w number other said is named = let same : number ≡ other = cc in subst (λ n. IsWordAtEvent w n said) same named
 
 -- a take that finds the space full
-least_free-full : (found : Option ℕ) → reply.Full ≡ option_map_or reply.Index found reply.Full → found ≡ None
+pub least_free-full : (found : Option ℕ) → reply.Full ≡ option_map_or reply.Index found reply.Full → found ≡ None
 least_free-full None is = refl
 least_free-full (Some i) is = absurd (cc)
 
@@ -78,7 +78,7 @@ pub IsInitAtEvent-full : (w : View) (b number : ℕ) → EndsWith (event b (act.
 IsInitAtEvent-full w b number ends lawful = HeldAtLast-ends w.opening w.seen (event b (act.Take External) reply.Full) _ ends lawful (λ t legal. least_free-full (least_free t External) legal.1)
 
 -- a bind that finds the field free, or a word in it
-bind_reply-found : (found word : ℕ) → bind_reply found ≡ bind_reply word → word ≡ found
+pub bind_reply-found : (found word : ℕ) → bind_reply found ≡ bind_reply word → word ≡ found
 bind_reply-found found word is = grind (arith, nat_tests)
 
 module _ (x y : View) (number word found : ℕ) (bound : Bound x (field.External number) word found y) where

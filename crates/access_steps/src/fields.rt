@@ -33,7 +33,6 @@ pub(crate) fn field_number(shared: &Shared, s: &Session, var: u32, f: u32) -> Op
 /// The word of external field `f` of the object that a variable holds, or Empty exactly where the variable holds nothing.
 pub fn name(shared: &Shared, s: &mut Session, var: u32, f: u32) -> Reply
     requires caller { IsOf shared.now s.old }
-    requires mutator { (view s.old).number < 8 }
     requires range { (var < 16) × (f < 2) }
     ensures caller { IsOf shared.now s.new }
     ensures made { Made (view s.old) (op.Name var f) result (view s.new) }
@@ -51,7 +50,6 @@ pub fn name(shared: &Shared, s: &mut Session, var: u32, f: u32) -> Reply
 /// exactly where the variable holds nothing.
 pub fn forge(shared: &Shared, s: &mut Session, var: u32, f: u32, word: u32) -> Reply
     requires caller { IsOf shared.now s.old }
-    requires mutator { (view s.old).number < 8 }
     requires range { (var < 16) × (f < 2) }
     ensures caller { IsOf shared.now s.new }
     ensures made { Made (view s.old) (op.Forge var f word) result (view s.new) }
@@ -72,7 +70,6 @@ pub fn forge(shared: &Shared, s: &mut Session, var: u32, f: u32, word: u32) -> R
 /// a value, Null or a fault; or Empty exactly where the variable holds nothing.
 pub fn load(shared: &Shared, s: &mut Session, var: u32, f: u32, range: Range) -> Reply
     requires caller { IsOf shared.now s.old }
-    requires mutator { (view s.old).number < 8 }
     requires range { (var < 16) × (f < 2) }
     ensures caller { IsOf shared.now s.new }
     ensures made { Made (view s.old) (op.Load var f range.first range.last) result (view s.new) }
@@ -94,7 +91,6 @@ pub fn load(shared: &Shared, s: &mut Session, var: u32, f: u32, range: Range) ->
 /// keeps its tag.
 pub fn store(shared: &Shared, s: &mut Session, var: u32, f: u32, range: Range, value: u64) -> Reply
     requires caller { IsOf shared.now s.old }
-    requires mutator { (view s.old).number < 8 }
     requires range { (var < 16) × (f < 2) }
     requires small { value < 2 ^ 48 }
     ensures caller { IsOf shared.now s.new }
@@ -115,7 +111,6 @@ pub fn store(shared: &Shared, s: &mut Session, var: u32, f: u32, range: Range, v
 /// Exchanges the value of a cell as `store` stores one, and answers the value that stood there.
 pub fn swap(shared: &Shared, s: &mut Session, var: u32, f: u32, range: Range, value: u64) -> Reply
     requires caller { IsOf shared.now s.old }
-    requires mutator { (view s.old).number < 8 }
     requires range { (var < 16) × (f < 2) }
     requires small { value < 2 ^ 48 }
     ensures caller { IsOf shared.now s.new }

@@ -55,7 +55,6 @@ pub fn put(shared: &Shared, s: &mut Session, ticket: Ticket, tag: Tag, value: u6
 /// aborts the compaction.
 pub fn init(shared: &Shared, s: &mut Session, var: u32, f: u32, tag: Tag, value: u64) -> Reply
     requires caller { IsOf shared.now s.old }
-    requires mutator { (view s.old).number < 8 }
     requires range { (var < 16) × (f < 2) }
     requires small { value < 2 ^ 48 }
     ensures caller { IsOf shared.now s.new }
@@ -80,7 +79,6 @@ fn bind_new<L: Ledger>(
     blank: Blank,
 ) -> Reply
     requires caller { IsOf shared.now s.old }
-    requires mutator { (view s.old).number < 8 }
     requires held { IsHeld (view s.old) (object_of (field.External number)) }
     requires small { value < 2 ^ 48 }
     requires name { blank.name ≡ L.name }

@@ -18,7 +18,6 @@ use tag_set::Range;
 /// index is 0, and Fault where no such cell stands there.
 pub fn raw_load(shared: &Shared, s: &mut Session, word: u32, range: Range) -> Reply
     requires caller { IsOf shared.now s.old }
-    requires mutator { (view s.old).number < 8 }
     ensures caller { IsOf shared.now s.new }
     ensures made { Made (view s.old) (op.Raw word range.first range.last) result (view s.new) }
     ensures answer { IsLookAtEvent (view s.new) External word range.first range.last result }
@@ -32,7 +31,6 @@ pub fn raw_load(shared: &Shared, s: &mut Session, word: u32, range: Range) -> Re
 /// does. The cell keeps its tag.
 pub fn raw_store(shared: &Shared, s: &mut Session, word: u32, range: Range, value: u64) -> Reply
     requires caller { IsOf shared.now s.old }
-    requires mutator { (view s.old).number < 8 }
     requires small { value < 2 ^ 48 }
     ensures caller { IsOf shared.now s.new }
     ensures made { Made (view s.old) (op.RawSet word range.first range.last value) result (view s.new) }

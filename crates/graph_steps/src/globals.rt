@@ -16,7 +16,6 @@ use plain_table::Reply;
 /// variable holds nothing, and else ok. It shades nothing, since the pause scans the globals.
 pub fn link_global(shared: &Shared, s: &mut Session, g: u32, target: Option<u32>) -> Reply
     requires caller { IsOf shared.now s.old }
-    requires mutator { (view s.old).number < 8 }
     requires global { g < 16 }
     requires target { IfSome target (λ var. var < 16) }
     ensures caller { IsOf shared.now s.new }

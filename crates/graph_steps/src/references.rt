@@ -57,7 +57,6 @@ pub(crate) fn reply_of(word: u64) -> Reply
 /// In a cycle, shades the object of a word, where it has one. The answer is that object where it was white.
 fn shade_target(shared: &Shared, s: &mut Session, word: u32) -> Option<u32>
     requires caller { IsOf shared.now s.old }
-    requires mutator { (view s.old).number < 8 }
     requires held { (q : ℕ) → word ≡ q + 1 → IsHeld (view s.old) q }
     ensures caller { IsOf shared.now s.new }
     ensures called { Called (view s.old) [] (view s.new) }
@@ -78,7 +77,6 @@ fn shade_target(shared: &Shared, s: &mut Session, word: u32) -> Option<u32>
 /// first. `shaded` is that object exactly where it was white at its step, and it then stands in the session's hands.
 pub fn link(shared: &Shared, s: &mut Session, var: u32, k: u32, target: Option<u32>) -> Linked
     requires caller { IsOf shared.now s.old }
-    requires mutator { (view s.old).number < 8 }
     requires variable { var < 16 }
     requires few { k < 4 }
     requires target { IfSome target (λ t. t < 16) }
@@ -122,7 +120,6 @@ pub fn link(shared: &Shared, s: &mut Session, var: u32, k: u32, target: Option<u
 /// the event, and `into` then holds the same (`HoldsReply` and `IsAtSpot` of `specs/Graph.antt`).
 pub fn fetch(shared: &Shared, s: &mut Session, into: u32, var: u32, k: u32) -> Reply
     requires caller { IsOf shared.now s.old }
-    requires mutator { (view s.old).number < 8 }
     requires variables { (into < 16) × (var < 16) }
     requires few { k < 4 }
     ensures caller { IsOf shared.now s.new }

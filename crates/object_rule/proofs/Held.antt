@@ -29,7 +29,7 @@ object_word-is (Some q) o is = ap Some (omega (arith, is))
 
 -- where a variable of a view's number holds an object, the number is a mutator's, since no other has variables
 pub mutator-held : (v : View) (o : ℕ) → length v.vars ≡ 128 → IsHeld v o → v.number < 8
-mutator-held v o many (var, few, is) = elim (cases_lt v.number 8) [
+mutator-held v o many (var, (few, is)) = elim (cases_lt v.number 8) [
   | inl low ↦ low
   | inr past ↦ absurd (let none : slice_index v.vars (16 * v.number + var) ≡ 0 = get_or_past v.vars (16 * v.number + var) 0 (omega (arith, many, past)) in omega (arith, none, is))
 ]

@@ -1,0 +1,5 @@
+pub mod ShapeEvents
+pub mod CallRows
+pub mod HistoryEvents
+pub mod LinkedObjects
+pub mod LinksInOrder

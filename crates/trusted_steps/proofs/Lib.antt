@@ -1,3 +1,4 @@
 pub mod TrustedCalls
 pub mod EntryFills
 pub mod SharedMarks
+pub mod EventCauses

@@ -1,5 +1,5 @@
 // A new trusted entry: an index is taken and filled, and a trusted field is bound to it.
-ghost use Rattle.std.specs.Prelude.{◌≡◌, ◌≢◌, ◌↔◌, ◌^◌, ◌<◌, None, IsSome};
+ghost use Rattle.std.specs.Prelude.{◌≡◌, ◌≢◌, ◌↔◌, ◌^◌, ◌<◌, None, IfSome, IsSome};
 ghost use Rattle.plain_table.specs.declared.events.Space.TheVariants.{Trusted};
 ghost use Rattle.plain_table.specs.declared.reports.Reply.TheVariants as reply;
 ghost use Rattle.plain_table.specs.declared.scripts.Op.TheVariants as op;
@@ -9,6 +9,7 @@ ghost use Rattle.entry_base.specs.Openings.{sizes_in};
 ghost use Rattle.entry_base.specs.Owns.{claim_of, IsHeld};
 ghost use Rattle.entry_base.specs.Sessions.{view, held_in, ticket_in, IsOf};
 ghost use Rattle.call_base.specs.Called.{Made};
+ghost use Rattle.trusted_steps.specs.Causes.{IsBoundAtEvent, IsFillAtEvent};
 ghost use Rattle.trusted_steps.specs.Fills.{BindsNew, FillsNew, HasTicketAfter, LeavesAllButTicket};
 
 use entry_base::{Session, Shared};
@@ -28,11 +29,11 @@ use tag_set::Tag;
 /// bind finds a word in the field, and Ok where the field has the new word: only then the mutator has the ticket of the new entry.
 pub fn tnew(shared: &Shared, s: &mut Session, var: u32, tag: Tag, value: u64) -> Reply
     requires caller { IsOf shared.now s.old }
-    requires mutator { (view s.old).number < 8 }
     requires range { var < 16 }
     requires small { value < 2 ^ 48 }
     ensures caller { IsOf shared.now s.new }
     ensures made { Made (view s.old) (op.TNew var tag value) result (view s.new) }
+    ensures answer { IfSome (held_in (view s.old) var) (λ object. ticket_in (view s.old) ≡ None → IsFillAtEvent (view s.new) object result) }
     ensures leaves { LeavesAllButTicket (view s.old) (view s.new) }
     ensures ticket { HasTicketAfter (view s.old) tag value result (view s.new) }
     ensures empty { (result ≡ reply.Empty) ↔ (held_in (view s.old) var ≡ None) }
@@ -57,7 +58,6 @@ fn fill_new<L: Ledger>(
     blank: Blank,
 ) -> Reply
     requires caller { IsOf shared.now s.old }
-    requires mutator { (view s.old).number < 8 }
     requires held { IsHeld (view s.old) object }
     requires small { value < 2 ^ 48 }
     requires none { ticket_in (view s.old) ≡ None }
@@ -66,6 +66,7 @@ fn fill_new<L: Ledger>(
     requires one { blank.parts ≡ 1 }
     ensures caller { IsOf shared.now s.new }
     ensures fills { FillsNew (view s.old) object tag value result (view s.new) }
+    ensures answer { IsFillAtEvent (view s.new) object result }
     ensures leaves { LeavesAllButTicket (view s.old) (view s.new) }
     ensures ticket { HasTicketAfter (view s.old) tag value result (view s.new) }
     ensures some { (result ≢ reply.Empty) × (result ≢ reply.Pending) }
@@ -88,13 +89,13 @@ fn bind_new(
     value: u64,
 ) -> Reply
     requires caller { IsOf shared.now s.old }
-    requires mutator { (view s.old).number < 8 }
     requires held { IsHeld (view s.old) object }
     requires small { value < 2 ^ 48 }
     requires owed { Has (view s.old).owed (claim_of (view s.old) Trusted ticket.index) }
     requires inside { ticket.index < limit_in (sizes_in (view s.old).opening) Trusted }
     ensures caller { IsOf shared.now s.new }
     ensures binds { BindsNew (view s.old) object ticket.index tag value result (view s.new) }
+    ensures answer { IsBoundAtEvent (view s.new) object result }
 {
     let index = ticket.index();
     put_trusted(shared, s, index, tag.byte(), value);

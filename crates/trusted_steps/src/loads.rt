@@ -1,9 +1,12 @@
 // Loads by trusted fields and by words of the trusted space.
-ghost use Rattle.std.specs.Prelude.{◌≡◌, ◌≢◌, ◌↔◌, ◌<◌, None};
+ghost use Rattle.std.specs.Prelude.{◌≡◌, ◌≢◌, ◌↔◌, ◌<◌, ℕ, None, IfSome};
+ghost use Rattle.plain_table.specs.declared.events.Space.TheVariants.{Trusted};
 ghost use Rattle.plain_table.specs.declared.reports.Reply.TheVariants as reply;
 ghost use Rattle.plain_table.specs.declared.scripts.Op.TheVariants as op;
 ghost use Rattle.entry_base.specs.Sessions.{view, held_in, IsOf};
 ghost use Rattle.call_base.specs.Called.{LeavesOwn, Made};
+ghost use Rattle.access_steps.specs.Accesses.{IsLookAtEvent};
+ghost use Rattle.trusted_steps.specs.Causes.{HeldWord};
 
 use access_steps::{look, reply_of};
 use entry_base::{Session, Shared};
@@ -15,9 +18,9 @@ use tag_set::Range;
 /// exactly where the index is 0, and Fault where no such cell stands there.
 pub fn traw(shared: &Shared, s: &mut Session, word: u32, range: Range) -> Reply
     requires caller { IsOf shared.now s.old }
-    requires mutator { (view s.old).number < 8 }
     ensures caller { IsOf shared.now s.new }
     ensures made { Made (view s.old) (op.TRaw word range.first range.last) result (view s.new) }
+    ensures answer { IsLookAtEvent (view s.new) Trusted word range.first range.last result }
     ensures leaves { LeavesOwn (view s.old) (view s.new) }
     ensures some { result ≢ reply.Empty }
 {
@@ -28,10 +31,10 @@ pub fn traw(shared: &Shared, s: &mut Session, word: u32, range: Range) -> Reply
 /// of tags, a value, Null or a fault; or Empty exactly where the variable holds nothing.
 pub fn tload(shared: &Shared, s: &mut Session, var: u32, range: Range) -> Reply
     requires caller { IsOf shared.now s.old }
-    requires mutator { (view s.old).number < 8 }
     requires range { var < 16 }
     ensures caller { IsOf shared.now s.new }
     ensures made { Made (view s.old) (op.TLoad var range.first range.last) result (view s.new) }
+    ensures answer { IfSome (held_in (view s.old) var) (λ object. (word : ℕ) × HeldWord (view s.old) object word (view s.new) × IsLookAtEvent (view s.new) Trusted word range.first range.last result) }
     ensures leaves { LeavesOwn (view s.old) (view s.new) }
     ensures empty { (result ≡ reply.Empty) ↔ (held_in (view s.old) var ≡ None) }
 {

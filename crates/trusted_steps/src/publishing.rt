@@ -1,10 +1,11 @@
 // The publishing of a trusted entry.
-ghost use Rattle.std.specs.Prelude.{◌≡◌, ◌≢◌, ◌↔◌, ◌<◌, None, Some, IfSome};
+ghost use Rattle.std.specs.Prelude.{◌≡◌, ◌≢◌, ◌↔◌, ◌<◌, ℕ, None, Some, IfSome};
 ghost use Rattle.plain_table.specs.declared.reports.Reply.TheVariants as reply;
 ghost use Rattle.plain_table.specs.declared.scripts.Op.TheVariants as op;
 ghost use Rattle.plain_table.specs.Index.{index_of};
 ghost use Rattle.entry_base.specs.Sessions.{view, held_in, pending_in, ticket_in, IsOf};
 ghost use Rattle.call_base.specs.Called.{Made};
+ghost use Rattle.trusted_steps.specs.Causes.{HeldWord, IsPublishReply};
 ghost use Rattle.trusted_steps.specs.Fills.{GivesTicketUp, LeavesAllButTicket};
 
 use entry_base::{Session, Shared};
@@ -18,10 +19,10 @@ use plain_table::Reply;
 /// mutator's ticket; else Ok, and the ticket is given up.
 pub fn publish(shared: &Shared, s: &mut Session, var: u32) -> Reply
     requires caller { IsOf shared.now s.old }
-    requires mutator { (view s.old).number < 8 }
     requires range { var < 16 }
     ensures caller { IsOf shared.now s.new }
     ensures made { Made (view s.old) (op.TPub var) result (view s.new) }
+    ensures answer { IfSome (held_in (view s.old) var) (λ object. (word : ℕ) × HeldWord (view s.old) object word (view s.new) × IsPublishReply (view s.old) word result) }
     ensures leaves { LeavesAllButTicket (view s.old) (view s.new) }
     ensures ticket { GivesTicketUp (view s.old) result (view s.new) }
     ensures empty { (result ≡ reply.Empty) ↔ (held_in (view s.old) var ≡ None) }

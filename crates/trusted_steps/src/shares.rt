@@ -1,5 +1,5 @@
 // Sharing: a second trusted field is bound to the entry of a first one.
-ghost use Rattle.std.specs.Prelude.{◌≡◌, ◌≢◌, ◌↔◌, ◌⊎◌, ◌<◌, None};
+ghost use Rattle.std.specs.Prelude.{◌≡◌, ◌≢◌, ◌↔◌, ◌⊎◌, ◌<◌, ℕ, None, IfSome};
 ghost use Rattle.plain_table.specs.declared.reports.Reply.TheVariants as reply;
 ghost use Rattle.plain_table.specs.declared.scripts.Op.TheVariants as op;
 ghost use Rattle.entry_base.specs.Openings.{phase_of};
@@ -8,6 +8,7 @@ ghost use Rattle.entry_base.specs.Sessions.{view, held_in, IsOf};
 ghost use Rattle.object_rule.specs.Fields.{IsMarkedInCycle};
 ghost use Rattle.call_base.specs.Called.{Called, LeavesOwn, Made};
 ghost use Rattle.mark_steps.specs.Words.{SawShared};
+ghost use Rattle.trusted_steps.specs.Causes.{HeldWord, IsShareAtEvent};
 ghost use Rattle.trusted_steps.specs.Shares.{SharesEntry, mark_for};
 
 use entry_base::{Session, Shared};
@@ -21,10 +22,10 @@ use plain_table::Reply;
 /// the bind.
 pub fn share(shared: &Shared, s: &mut Session, from: u32, to: u32) -> Reply
     requires caller { IsOf shared.now s.old }
-    requires mutator { (view s.old).number < 8 }
     requires range { (from < 16) × (to < 16) }
     ensures caller { IsOf shared.now s.new }
     ensures made { Made (view s.old) (op.Share from to) result (view s.new) }
+    ensures answer { IfSome (held_in (view s.old) from) (λ source. IfSome (held_in (view s.old) to) (λ target. (word : ℕ) × HeldWord (view s.old) source word (view s.new) × IsShareAtEvent (view s.new) target word result)) }
     ensures leaves { LeavesOwn (view s.old) (view s.new) }
     ensures empty { (result ≡ reply.Empty) ↔ ((held_in (view s.old) from ≡ None) ⊎ (held_in (view s.old) to ≡ None)) }
 {
@@ -40,10 +41,10 @@ pub fn share(shared: &Shared, s: &mut Session, from: u32, to: u32) -> Reply
 /// Binds the trusted field of a target object to the entry that a source object's field names. Variables hold both objects.
 fn share_entry(shared: &Shared, s: &mut Session, source: u32, target: u32) -> Reply
     requires caller { IsOf shared.now s.old }
-    requires mutator { (view s.old).number < 8 }
     requires held { IsHeld (view s.old) source × IsHeld (view s.old) target }
     ensures caller { IsOf shared.now s.new }
     ensures shares { SharesEntry (view s.old) source target result (view s.new) }
+    ensures answer { (word : ℕ) × HeldWord (view s.old) source word (view s.new) × IsShareAtEvent (view s.new) target word result }
     ensures leaves { LeavesOwn (view s.old) (view s.new) }
     ensures some { result ≢ reply.Empty }
 {
