@@ -1,2 +1,14 @@
+pub mod Lists
 pub mod Given
 pub mod Taken
+pub mod Suits
+pub mod Played
+pub mod Whole
+pub mod Scanned
+pub mod Closed
+pub mod Cuts
+pub mod Joins
+pub mod Pushes
+pub mod Ready
+pub mod Chosen
+pub mod Marked

@@ -8,6 +8,7 @@ use Rattle.plain_table.specs.declared.scripts.Phase.{Phase}
 use Rattle.plain_table.specs.declared.events.Act.{Act}
 use Rattle.plain_table.specs.declared.events.Act.TheVariants.{Scan}
 use Rattle.plain_table.specs.declared.events.Event.{Event}
+use Rattle.plain_table.specs.Ranges.{IsInRange}
 use Rattle.plain_table.specs.Belongs.{IsMarker, IsScannedIn, events_by}
 use Rattle.plain_table.specs.Scans.{IsReadConcurrently, Rest, Scans}
 use Rattle.plain_table.specs.Shapes.{MakesCalls, with_ticket}
@@ -26,8 +27,7 @@ use Rattle.phases.specs.declared.phases.PhaseOut.{PhaseOut}
 
 -- a phase can be run with these limits: it has one list of valid calls for each mutator; what is valid in version 1 is in version 2
 pub record CanRun (limits : Limits) (calls : List (List Op)) : Type 0 where
-  pub mutators : (1 ≤ limits.mutators) × (limits.mutators ≤ 8)
-  pub markers : limits.markers ≤ 4
+  pub range : IsInRange limits
   pub lists : length calls ≡ limits.mutators
   pub valid : All (All (IsValidOp 2)) calls
   pub few : All (λ (ops : List Op). length ops ≤ most_operations) calls

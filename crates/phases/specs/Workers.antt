@@ -1,6 +1,6 @@
 -- What the workers of a phase need, and what they have done: the mutators one by one, and the whole phase as the session knows it
 -- that took all of them in.
-use Rattle.std.specs.Prelude.{◌≡◌, ◌⊎◌, ℕ, ◌<◌, ◌≤◌, List, [], length, slice_index_or, vec_capacity}
+use Rattle.std.specs.Prelude.{◌≡◌, ◌⊎◌, ℕ, ◌<◌, ◌≤◌, List, [], ◌++◌, length, map, slice_index_or, vec_capacity}
 use Rattle.std.specs.List.{All, Contains, count_by}
 use Rattle.plain_table.specs.declared.scripts.Limits.{Limits}
 use Rattle.plain_table.specs.declared.scripts.Op.{Op}
@@ -17,14 +17,19 @@ use Rattle.entry_base.specs.declared.table.Shared.{Shared}
 use Rattle.entry_base.specs.declared.view.Fact.TheVariants as fact
 use Rattle.entry_base.specs.declared.view.Opening.{Opening}
 use Rattle.entry_base.specs.declared.view.View.{View}
-use Rattle.entry_base.specs.Lists.{Has}
+use Rattle.entry_base.specs.declared.chunks.Chunk.{Chunk}
+use Rattle.entry_base.specs.Lists.{Has, total}
 use Rattle.entry_base.specs.Numbers.{HasNumber}
 use Rattle.entry_base.specs.Openings.{IsBase, phase_of}
 use Rattle.entry_base.specs.Sessions.{IsOf, view}
 use Rattle.call_base.specs.ScanParts.{any_object}
+use Rattle.chunk_pool.specs.declared.pool.Pool.{Pool}
 use Rattle.phase_calls.specs.Calls.{MakesInTurn}
+use Rattle.phases.specs.declared.markers.Marking.{Marking}
 use Rattle.phases.specs.declared.mutators.Worker.{Worker}
+use Rattle.phases.specs.Markings.{EachOnce, HasMarked, HaveEnded}
 use Rattle.phases.specs.Phases.{is_scan}
+use Rattle.phases.specs.Sessions.{TookIn}
 
 -- a mutator that may make these calls, with room for their replies
 pub record MayCall (t : Shared) (calls : List Op) (w : Worker) : Type 0 where
@@ -48,6 +53,28 @@ pub record MayAllCall (t : Shared) (calls : List (List Op)) (workers : List Work
 pub record HaveAllCalled (t : Shared) (calls : List (List Op)) (before after : List Worker) : Type 0 where
   pub lists : length after ≡ length before
   pub each : (i : ℕ) (d : Worker) → i < length before → HasCalled t (slice_index_or calls i []) (slice_index_or before i d) (slice_index_or after i d)
+
+-- all mutators made their calls and were taken in
+pub record CalledAll (t : Shared) (calls : List (List Op)) (before : List Worker) (replies : List (List Reply)) (after : List Worker) : Type 0 where
+  pub called : HaveAllCalled t calls before after
+  pub replied : replies ≡ map (λ (x : Worker). x.replies.items) after
+
+-- and nobody else
+pub record WorkedAlone (t : Shared) (calls : List (List Op)) (before : List Worker) (replies : List (List Reply)) (v w : View) : Type 0 where
+  pub after : List Worker
+  pub all : CalledAll t calls before replies after
+  pub took : TookIn v (map (λ (x : Worker). view x.session) after) w
+
+-- or the markers, which ran meanwhile
+pub record WorkedMarking (t : Shared) (pool : Pool) (calls : List (List Op)) (before : List Worker) (marks : List Marking) (replies : List (List Reply)) (scans : ℕ) (v w : View) : Type 0 where
+  pub after : List Worker
+  pub all : CalledAll t calls before replies after
+  pub marked : List Marking
+  pub lists : length marked ≡ length marks
+  pub each : (i : ℕ) (d : Marking) → i < length marks → HasMarked t pool (slice_index_or marks i d) (slice_index_or marked i d)
+  pub once : (chunks : List Chunk) → HaveEnded chunks marked → EachOnce chunks marked
+  pub counted : scans ≡ total (λ (m : Marking). m.dealt.scans) marked
+  pub took : TookIn v (map (λ (x : Worker). view x.session) after ++ map (λ (m : Marking). view m.session) marked) w
 
 -- the calls of all mutators were made, and the markers have scanned, in a phase that was opened with `key` and with these objects to
 -- scan: what the session knows that took all workers in

@@ -3,9 +3,14 @@
 //!
 //! `run_phase` says that the phase has one history, whose events are the calls of the mutators with their replies and the scans of
 //! the markers, that the new image shows the table after it, and what is then still to be scanned (`Ran` of `specs/Phases.antt`).
-//! `phases.rt` has the phase, `mutators.rt` and `markers.rt` its workers, and `chunks.rt` deals the objects to scan out.
+//! `phases.rt` has the phase, `work.rt` lets its workers work, `mutators.rt` and `markers.rt` have these, and `chunks.rt` deals the
+//! objects to scan out.
 #![tactic(auto)]
 
+mod chunks;
+mod markers;
+mod mutators;
 mod phases;
+mod work;
 
 pub use phases::{PhaseOut, run_phase};

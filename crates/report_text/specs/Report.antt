@@ -1,6 +1,6 @@
 -- The report of a run, as it is printed: each reply on a line of its own after the mutator's number, and the line of
 -- each meet; and the text of a refused script.
-use Rattle.std.specs.Prelude.{ℕ, ◌+◌, List, [], ◌∷◌, ◌++◌, Option, Some, None, codes}
+use Rattle.std.specs.Prelude.{ℕ, ◌+◌, ◌-◌, List, [], ◌∷◌, ◌++◌, Option, Some, None, codes}
 use Rattle.std.specs.List.{concat, flat_map}
 use Rattle.std.specs.Fmt.{decimal}
 use Rattle.script_reader.specs.Canonical.{hex}
@@ -95,3 +95,10 @@ fault_text_of (OutOfRange line) = refusal_text line (codes ": out of range\n")
 fault_text_of (BadMeet line) = refusal_text line (codes ": bad meet\n")
 fault_text_of (TooMany line) = refusal_text line (codes ": too many\n")
 fault_text_of OutOfMemory = []
+
+-- the one line that sums an outcome up: the external cells at the end, the sum of their values, and how many more were
+-- put than are left
+abbrev pub soak_line_of : Outcome → List ℕ
+soak_line_of outcome =
+    concat (codes "soak live=" ∷ decimal outcome.live ∷ codes " sum=" ∷ hex 12 outcome.sum
+    ∷ codes " gone=" ∷ decimal (outcome.puts - outcome.live) ∷ codes "\n" ∷ [])

@@ -1,8 +1,8 @@
 // The text of reports and of refused scripts, appended to one `String` piece by piece; want of memory is the only
 // error. What stands where is defined in `specs/Report.antt`.
-ghost use Rattle.std.specs.Prelude.{◌≡◌, ◌++◌, IfOk, OnOk, string_bytes};
+ghost use Rattle.std.specs.Prelude.{◌≡◌, ◌++◌, ◌^◌, ◌<◌, ◌≤◌, IfOk, OnOk, string_bytes};
 ghost use Rattle.script_reader.specs.Canonical.{hex};
-ghost use Rattle.report_text.specs.Report.{compaction_text, fault_text_of, meet_text, mutators_text, replies_text, reply_line, reply_text, report_of, start_text, sweep_text};
+ghost use Rattle.report_text.specs.Report.{compaction_text, fault_text_of, meet_text, mutators_text, replies_text, reply_line, reply_text, report_of, soak_line_of, start_text, sweep_text};
 
 use plain_table::{Compaction, MeetReport, Outcome, Reply, SweepReport};
 use script_reader::{OutOfMemory, ScriptErr, push_hex};
@@ -16,6 +16,19 @@ pub fn text(alloc: Global, outcome: &Outcome) -> Result<String, OutOfMemory>
 {
     let mut text = String::new(alloc);
     push_phases(&mut text, outcome)?;
+    Ok(text)
+}
+
+/// The one line that sums an outcome up (`soak_line_of` in `specs/Report.antt`), as
+/// `soak live=1200 sum=00000057d5f0 gone=8400`: the external cells at the end, the sum of their values modulo 2^48 in
+/// twelve hexadecimal digits, and how many of the cells that were put are not left.
+pub fn soak_text(alloc: Global, outcome: &Outcome) -> Result<String, OutOfMemory>
+    requires live { outcome.now.live ≤ outcome.now.puts }
+    requires sum { outcome.now.sum < 2 ^ 48 }
+    ensures { IfOk result (λ text. string_bytes text ≡ soak_line_of outcome.now) }
+{
+    let mut text = String::new(alloc);
+    push_soak(&mut text, outcome)?;
     Ok(text)
 }
 
@@ -34,6 +47,17 @@ pub fn fault_text(alloc: Global, refusal: &ScriptErr) -> Result<String, OutOfMem
         ScriptErr::TooMany { line } => Ok(format!(in alloc; "line {line}: too many\n")?),
         ScriptErr::OutOfMemory => Ok(String::new(alloc)),
     }
+}
+
+// The summary of an outcome.
+fn push_soak(text: &mut String, outcome: &Outcome) -> Result<(), AllocError>
+    requires { outcome.now.live ≤ outcome.now.puts }
+    ensures { OnOk result (string_bytes text.new ≡ string_bytes text.old ++ soak_line_of outcome.now) }
+{
+    let gone = outcome.puts - outcome.live;
+    write!(text, "soak live={}", outcome.live)?;
+    push_named(text, " sum=", 12, outcome.sum)?;
+    write!(text, " gone={gone}\n")
 }
 
 // The phases, each with its replies and then its meet.

@@ -1,4 +1,4 @@
-use crate::{fault_text, text};
+use crate::{fault_text, soak_text, text};
 use plain_table::{Compaction, MeetReport, Outcome, PhaseReport, Reply, SweepReport};
 use script_reader::{OutOfMemory, ScriptErr};
 use sqlite_items::Items;
@@ -125,6 +125,24 @@ fn prints_each_line(rt: HostRuntime) -> Result<(), OutOfMemory> {
         let outcome = outcome_of(rt.alloc(), mutators, meet)?;
         assert_eq!(rt; text(rt.alloc(), &outcome)?.as_str(), want);
     }
+    Ok(())
+}
+
+#[test]
+fn sums_an_outcome_up(rt: HostRuntime) -> Result<(), OutOfMemory> {
+    let outcome = Outcome {
+        phases: Items::new(rt.alloc()),
+        live: 1200,
+        trusted: 0,
+        objects: 9600,
+        sum: 0x57d5f0,
+        puts: 9600,
+    };
+    let line = soak_text(rt.alloc(), &outcome)?;
+    assert_eq!(rt;
+        line.as_str(),
+        "soak live=1200 sum=00000057d5f0 gone=8400\n"
+    );
     Ok(())
 }
 

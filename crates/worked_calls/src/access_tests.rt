@@ -1,5 +1,4 @@
 // Each answer of the calls by external fields and by words of the external space.
-ghost use Rattle.std.specs.Prelude.{◌<◌};
 ghost use Rattle.entry_base.specs.Callers.{SameCaller};
 ghost use Rattle.entry_base.specs.Sessions.{view, IsOf};
 
@@ -14,7 +13,6 @@ use worked_tables::{close_both, open_fresh};
 /// Calls by a field that is not bound, and by a word of index 0, which answer null.
 fn access_null(rt: &impl Abort, shared: &Shared, s: &mut Session)
     requires caller { IsOf shared.now s.old }
-    requires mutator { (view s.old).number < 8 }
     ensures caller { IsOf shared.now s.new }
     ensures same { SameCaller (view s.old) (view s.new) }
 {
@@ -35,7 +33,6 @@ fn access_null(rt: &impl Abort, shared: &Shared, s: &mut Session)
 /// Calls by field 0, whose cell has another tag than the one that they ask.
 fn access_under_another_tag(rt: &impl Abort, shared: &Shared, s: &mut Session)
     requires caller { IsOf shared.now s.old }
-    requires mutator { (view s.old).number < 8 }
     ensures caller { IsOf shared.now s.new }
     ensures same { SameCaller (view s.old) (view s.new) }
 {
@@ -56,7 +53,6 @@ fn access_under_another_tag(rt: &impl Abort, shared: &Shared, s: &mut Session)
 /// Calls by field 0 under the tag of its cell: each finds what the one before it left.
 fn access_under_the_tag(rt: &impl Abort, shared: &Shared, s: &mut Session)
     requires caller { IsOf shared.now s.old }
-    requires mutator { (view s.old).number < 8 }
     ensures caller { IsOf shared.now s.new }
     ensures same { SameCaller (view s.old) (view s.new) }
 {
@@ -75,7 +71,6 @@ fn access_under_the_tag(rt: &impl Abort, shared: &Shared, s: &mut Session)
 /// Forges words into field 0: a stranger's cell is met under its own tag alone, and a word past the limit meets none.
 fn access_forged(rt: &impl Abort, shared: &Shared, s: &mut Session)
     requires caller { IsOf shared.now s.old }
-    requires mutator { (view s.old).number < 8 }
     ensures caller { IsOf shared.now s.new }
     ensures same { SameCaller (view s.old) (view s.new) }
 {

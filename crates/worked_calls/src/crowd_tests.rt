@@ -94,7 +94,6 @@ struct Work {
 /// Links the own object and the common one to each other, and shares the common trusted cell with the own object.
 fn link_and_share(rt: &impl Abort, shared: &Shared, s: &mut Session)
     requires caller { IsOf shared.now s.old }
-    requires mutator { (view s.old).number < 8 }
     ensures caller { IsOf shared.now s.new }
     ensures same { SameCaller (view s.old) (view s.new) }
 {
@@ -109,7 +108,6 @@ fn link_and_share(rt: &impl Abort, shared: &Shared, s: &mut Session)
 /// The work of a thread, whose cells have values from its number on.
 fn work_at_once(rt: &impl Abort, shared: &Shared, mut s: Session, number: u64) -> (Session, Work)
     requires caller { IsOf shared.now s }
-    requires mutator { (view s).number < 8 }
     requires small { number < 8 }
     ensures caller { IsOf shared.now result.0 }
     ensures same { SameCaller (view s) (view result.0) }
@@ -129,7 +127,6 @@ fn both_work<R: Threads + Sync + Abort>(
     number: u64,
 ) -> ((Session, Work), (Session, Work))
     requires callers { IsOf shared.now pair.0 × IsOf shared.now pair.1 }
-    requires mutators { ((view pair.0).number < 8) × ((view pair.1).number < 8) }
     requires small { number < 7 }
     ensures callers { IsOf shared.now result.0.0 × IsOf shared.now result.1.0 }
     ensures same { SameCaller (view pair.0) (view result.0.0) × SameCaller (view pair.1) (view result.1.0) }
@@ -227,8 +224,6 @@ fn all_work<R: Threads + Sync + Abort>(
 )
     requires low { IsOf shared.now low.0 × IsOf shared.now low.1 }
     requires high { IsOf shared.now high.0 × IsOf shared.now high.1 }
-    requires low_mutators { ((view low.0).number < 8) × ((view low.1).number < 8) }
-    requires high_mutators { ((view high.0).number < 8) × ((view high.1).number < 8) }
     ensures low { IsOf shared.now result.0.0.0 × IsOf shared.now result.0.1.0 }
     ensures high { IsOf shared.now result.1.0.0 × IsOf shared.now result.1.1.0 }
     ensures same_low { SameCaller (view low.0) (view result.0.0.0) × SameCaller (view low.1) (view result.0.1.0) }
@@ -238,11 +233,9 @@ fn all_work<R: Threads + Sync + Abort>(
         rt,
         ||
             requires callers { IsOf shared.now low.0 × IsOf shared.now low.1 }
-            requires mutators { ((view low.0).number < 8) × ((view low.1).number < 8) }
         { both_work(rt, shared, low, 0) },
         ||
             requires callers { IsOf shared.now high.0 × IsOf shared.now high.1 }
-            requires mutators { ((view high.0).number < 8) × ((view high.1).number < 8) }
         { both_work(rt, shared, high, 2) },
     )
 }

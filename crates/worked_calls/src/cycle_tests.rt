@@ -37,7 +37,6 @@ fn make_hidden(
 /// Publishes the trusted cell of the object of variable 0 and loads it.
 fn publish_and_load(rt: &impl Abort, shared: &Shared, s: &mut Session, value: u64)
     requires caller { IsOf shared.now s.old }
-    requires mutator { (view s.old).number < 8 }
     ensures caller { IsOf shared.now s.new }
     ensures same { SameCaller (view s.old) (view s.new) }
 {
@@ -64,7 +63,6 @@ fn load_and_drop(rt: &impl Abort, shared: &Shared, s: &mut Session)
 /// Fills a trusted cell of another tag at the index that was freed, and loads by its word and by one of index 0.
 fn fill_again(rt: &impl Abort, shared: &Shared, s: &mut Session)
     requires caller { IsOf shared.now s.old }
-    requires mutator { (view s.old).number < 8 }
     ensures caller { IsOf shared.now s.new }
     ensures same { SameCaller (view s.old) (view s.new) }
 {

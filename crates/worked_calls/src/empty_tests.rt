@@ -1,5 +1,4 @@
 // Calls by a variable that holds nothing: each answers so, and changes nothing.
-ghost use Rattle.std.specs.Prelude.{◌<◌};
 ghost use Rattle.entry_base.specs.Callers.{SameCaller};
 ghost use Rattle.entry_base.specs.Sessions.{view, IsOf};
 
@@ -16,7 +15,6 @@ use worked_tables::{close_both, open};
 /// Calls by external fields of what variable 1 holds, which is nothing.
 fn access_nothing(rt: &impl Abort, shared: &Shared, s: &mut Session)
     requires caller { IsOf shared.now s.old }
-    requires mutator { (view s.old).number < 8 }
     ensures caller { IsOf shared.now s.new }
     ensures same { SameCaller (view s.old) (view s.new) }
 {
@@ -37,7 +35,6 @@ fn access_nothing(rt: &impl Abort, shared: &Shared, s: &mut Session)
 /// Calls by references of what variable 1 holds, which is nothing, and links to it.
 fn link_nothing(rt: &impl Abort, shared: &Shared, s: &mut Session)
     requires caller { IsOf shared.now s.old }
-    requires mutator { (view s.old).number < 8 }
     ensures caller { IsOf shared.now s.new }
     ensures same { SameCaller (view s.old) (view s.new) }
 {
@@ -56,7 +53,6 @@ fn link_nothing(rt: &impl Abort, shared: &Shared, s: &mut Session)
 /// Calls by the trusted field of what variable 1 holds, which is nothing.
 fn share_nothing(rt: &impl Abort, shared: &Shared, s: &mut Session)
     requires caller { IsOf shared.now s.old }
-    requires mutator { (view s.old).number < 8 }
     ensures caller { IsOf shared.now s.new }
     ensures same { SameCaller (view s.old) (view s.new) }
 {

@@ -36,7 +36,6 @@ pub(crate) fn bind(
     value: u64,
 )
     requires caller { IsOf shared.now s.old }
-    requires mutator { (view s.old).number < 8 }
     requires place { (place.0 < 16) × (place.1 < 2) }
     requires small { value < 2 ^ 48 }
     ensures caller { IsOf shared.now s.new }

@@ -16,7 +16,6 @@ use worked_tables::{close_both, open, open_fresh};
 /// Links reference 3 of object 0 to object 1 and back to nothing, and fetches both. No link shades anything outside a cycle.
 fn link_and_unlink(rt: &impl Abort, shared: &Shared, s: &mut Session)
     requires caller { IsOf shared.now s.old }
-    requires mutator { (view s.old).number < 8 }
     ensures caller { IsOf shared.now s.new }
     ensures same { SameCaller (view s.old) (view s.new) }
 {
@@ -92,7 +91,6 @@ fn make_linked(rt: &impl Abort, shared: &Shared, s: &mut Session)
 /// Fetches object 1 in a cycle, which is white, and links to it: the first link shades it, and the second one finds it shaded.
 fn link_a_white_object(rt: &impl Abort, shared: &Shared, s: &mut Session)
     requires caller { IsOf shared.now s.old }
-    requires mutator { (view s.old).number < 8 }
     ensures caller { IsOf shared.now s.new }
     ensures same { SameCaller (view s.old) (view s.new) }
 {
@@ -112,7 +110,6 @@ fn link_a_white_object(rt: &impl Abort, shared: &Shared, s: &mut Session)
 /// Shades object 1, which variable 1 holds in a cycle: it was white at the first shading alone.
 fn shade_twice(rt: &impl Abort, shared: &Shared, s: &mut Session)
     requires caller { IsOf shared.now s.old }
-    requires mutator { (view s.old).number < 8 }
     requires cycle { phase_of (view s.old).opening ≡ 1 }
     ensures caller { IsOf shared.now s.new }
     ensures same { SameCaller (view s.old) (view s.new) }

@@ -70,7 +70,6 @@ fn init_on_thread(
     value: u64,
 ) -> (Session, Reply)
     requires caller { IsOf shared.now s }
-    requires mutator { (view s).number < 8 }
     requires variable { var < 16 }
     requires small { value < 2 ^ 48 }
     ensures caller { IsOf shared.now result.0 }
@@ -87,7 +86,6 @@ fn both_init<R: Threads + Sync + Abort>(
     two: Session,
 ) -> ((Session, Reply), (Session, Reply))
     requires callers { IsOf shared.now one × IsOf shared.now two }
-    requires mutators { ((view one).number < 8) × ((view two).number < 8) }
     ensures callers { IsOf shared.now result.0.0 × IsOf shared.now result.1.0 }
     ensures same { SameCaller (view one) (view result.0.0) × SameCaller (view two) (view result.1.0) }
 {

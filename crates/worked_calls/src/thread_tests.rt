@@ -1,10 +1,12 @@
 // Two threads: each takes and fills an entry, and both try to bind the same field.
-ghost use Rattle.std.specs.Prelude.{◌^◌, ◌<◌, IfOk};
+ghost use Rattle.std.specs.Prelude.{◌≡◌, ◌≢◌, ◌^◌, ◌<◌, ◌≤◌, [], ◌∷◌, IfOk};
 ghost use Rattle.entry_word.specs.Image.{image_of, sizes_of};
 ghost use Rattle.plain_table.specs.Shows.{IsLawful};
 ghost use Rattle.word_laws.specs.Small.{AreSmall};
 ghost use Rattle.entry_base.specs.Callers.{SameCaller};
+ghost use Rattle.entry_base.specs.Lists.{without_one};
 ghost use Rattle.entry_base.specs.Sessions.{view, IsOf};
+ghost use Rattle.entry_base.specs.Views.{numbers_below};
 
 use crate::asked::{ONE, only, tag, word_at};
 use crate::entries::{make, put_new};
@@ -55,7 +57,6 @@ fn both_put<R: Threads + Sync + Abort>(
 /// Loads by both words under their tags, and by a word past the limit.
 fn load_both(rt: &impl Abort, shared: &Shared, s: &mut Session, here: u32, there: u32)
     requires caller { IsOf shared.now s.old }
-    requires mutator { (view s.old).number < 8 }
     ensures caller { IsOf shared.now s.new }
     ensures same { SameCaller (view s.old) (view s.new) }
 {
@@ -78,14 +79,35 @@ fn assert_cells(rt: &impl Abort, image: &Image, in_order: bool) {
     assert_eq!(rt; word_at(rt, image, 42), late);
 }
 
+/// Joins the sessions of both threads into the first one, which then loads by both words, and closes the table.
+fn load_and_close(
+    rt: &impl Abort,
+    shared: Shared,
+    mut first: Session,
+    one: (Session, u32),
+    two: (Session, u32),
+) -> Image
+    requires callers { IsOf shared first × IsOf shared one.0 × IsOf shared two.0 }
+    requires low { ((view one.0).number ≤ 12) × ((view two.0).number ≤ 12) }
+    requires differ { (view one.0).number ≢ (view two.0).number }
+    requires given { (view first).numbers ≡ without_one (view two.0).number (without_one (view one.0).number (numbers_below 13)) }
+    requires back { ((view one.0).numbers ≡ (view one.0).number ∷ []) × ((view two.0).numbers ≡ (view two.0).number ∷ []) }
+{
+    let (one, here) = one;
+    let (two, there) = two;
+    first.join(&shared, one);
+    first.join(&shared, two);
+    load_both(rt, &shared, &mut first, here, there);
+    shared.finish(first)
+}
+
 #[test]
 fn two_threads_take_and_fill_an_entry_each(rt: HostRuntime) -> Result<(), OutOfMemory> {
     let (shared, mut first) = open_fresh(rt.alloc(), ONE)?;
     let one = first.split(&shared, 0, &[]);
     let two = first.split(&shared, 1, &[]);
-    let ((mut one, here), (two, there)) = both_put(&rt, &shared, one, two);
-    load_both(&rt, &shared, &mut one, here, there);
-    let image = close_three(shared, first, one, two);
+    let ((one, here), (two, there)) = both_put(&rt, &shared, one, two);
+    let image = load_and_close(&rt, shared, first, (one, here), (two, there));
     assert_eq!(rt; word_at(&rt, &image, 0), 0x1_0000_0003);
     assert!(rt; here == 0x1_0000 && there == 0x2_0000 || here == 0x2_0000 && there == 0x1_0000);
     assert_cells(&rt, &image, here == 0x1_0000);
@@ -135,7 +157,6 @@ fn init_on_thread(
     value: u64,
 ) -> (Session, Reply)
     requires caller { IsOf shared.now s }
-    requires mutator { (view s).number < 8 }
     requires small { value < 2 ^ 48 }
     ensures caller { IsOf shared.now result.0 }
     ensures same { SameCaller (view s) (view result.0) }
@@ -151,7 +172,6 @@ fn both_init<R: Threads + Sync + Abort>(
     two: Session,
 ) -> ((Session, Reply), (Session, Reply))
     requires callers { IsOf shared.now one × IsOf shared.now two }
-    requires mutators { ((view one).number < 8) × ((view two).number < 8) }
     ensures callers { IsOf shared.now result.0.0 × IsOf shared.now result.1.0 }
     ensures same { SameCaller (view one) (view result.0.0) × SameCaller (view two) (view result.1.0) }
 {
@@ -173,7 +193,6 @@ fn first_won(rt: &impl Abort, here: Reply, there: Reply, word: u64) -> bool {
 /// Loads by field 0 under the winner's tag and under the other one.
 fn load_winner(rt: &impl Abort, shared: &Shared, s: &mut Session, first: bool)
     requires caller { IsOf shared.now s.old }
-    requires mutator { (view s.old).number < 8 }
     ensures caller { IsOf shared.now s.new }
     ensures same { SameCaller (view s.old) (view s.new) }
 {

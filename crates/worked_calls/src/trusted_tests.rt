@@ -15,7 +15,6 @@ use worked_tables::{close_both, open, open_fresh};
 /// Calls by the trusted field of object 0, which is not bound.
 fn share_null(rt: &impl Abort, shared: &Shared, s: &mut Session)
     requires caller { IsOf shared.now s.old }
-    requires mutator { (view s.old).number < 8 }
     ensures caller { IsOf shared.now s.new }
     ensures same { SameCaller (view s.old) (view s.new) }
 {
@@ -30,7 +29,6 @@ fn share_null(rt: &impl Abort, shared: &Shared, s: &mut Session)
 /// Fills a cell that the field of object 0 names, which can't be seen before it is published, nor another one filled before.
 fn fill_and_publish(rt: &impl Abort, shared: &Shared, s: &mut Session)
     requires caller { IsOf shared.now s.old }
-    requires mutator { (view s.old).number < 8 }
     ensures caller { IsOf shared.now s.new }
     ensures same { SameCaller (view s.old) (view s.new) }
 {
@@ -51,7 +49,6 @@ fn fill_and_publish(rt: &impl Abort, shared: &Shared, s: &mut Session)
 /// Loads the published cell, fills another one for the field that names it already, and shares it with object 1 once.
 fn share_published(rt: &impl Abort, shared: &Shared, s: &mut Session)
     requires caller { IsOf shared.now s.old }
-    requires mutator { (view s.old).number < 8 }
     ensures caller { IsOf shared.now s.new }
     ensures same { SameCaller (view s.old) (view s.new) }
 {
@@ -70,7 +67,6 @@ fn share_published(rt: &impl Abort, shared: &Shared, s: &mut Session)
 /// Fills the last index of the trusted space, after which it is full, and loads by words of the space.
 fn fill_last(rt: &impl Abort, shared: &Shared, s: &mut Session)
     requires caller { IsOf shared.now s.old }
-    requires mutator { (view s.old).number < 8 }
     ensures caller { IsOf shared.now s.new }
     ensures same { SameCaller (view s.old) (view s.new) }
 {

@@ -1,0 +1,4 @@
+pub mod Counting
+pub mod OldTags
+pub mod Validity
+pub mod SeedDigits
