@@ -187,6 +187,6 @@ module _ (limits : Limits) (old : Mutator) (calls : List (List Op)) (ready : IsR
     pub old-scanned : (o : ℕ) → IsReachable s o → IsScannedIn limits ran.history o
     old-scanned o reach =
         (Reaches-fold (λ m. IsScannedIn limits ran.history m × IsReachable s m) o reach
-            (λ g q e. (roots-scanned some q (inl (g, e)), By_global g q e))
-            (λ b v q e. (roots-scanned some q (inr (b, v, e)), By_variable b v q e))
-            (λ m k q has e. let far = By_reference m k q has.1 e in (next-scanned m k q has.0 e far, far))).0
+        (λ g q e. (roots-scanned some q (inl (g, e)), By_global g q e))
+        (λ b v q e. (roots-scanned some q (inr (b, v, e)), By_variable b v q e))
+        (λ m k q has e. let far = By_reference m k q has.1 e in (next-scanned m k q has.0 e far, far))).0

@@ -24,20 +24,20 @@ WorksEach-ran limits old new phase ready can out ran same long many listed kept 
     let base = IsBase-seen old s sees in
     let legal = legal-after limits old phase.calls ready out ran s sees in
     record {
-  during = ran.history;
-  legal = legal;
-  belongs = λ met report belongs. record {
-    calls = ran.calls_made s base;
-    scans = ran.scans s base;
-    numbers = ran.numbers;
-    roots = λ begin some o root. let c = begun_cycle s (starts begin) in
-        roots-scanned limits old phase.calls ready out ran s linked sees handed c.0 c.1 some o root;
-    old = λ begin some none o reach. let c = begun_cycle s (starts begin) in
-        old-scanned limits old phase.calls ready out ran s linked sees handed c.0 c.1 can some none o reach;
-    lists = ran.lists;
-    meet = belongs;
-  };
-  puts = puts_of_all-phase limits phase.calls out.replies s ran.history can.range.mutators.1 can.range.markers can.lists ran.lists legal (ran.calls_made s base) (ran.scans s base) ran.numbers;
-  sees = Sees-worked limits old phase.calls ready out ran new same long many listed kept s sees;
-  handed = HandsOver-worked limits old phase.calls ready out ran new same long many listed kept s linked sees handed;
-}
+      during = ran.history;
+      legal = legal;
+      belongs = λ met report belongs. record {
+        calls = ran.calls_made s base;
+        scans = ran.scans s base;
+        numbers = ran.numbers;
+        roots = λ begin some o root. let c = begun_cycle s (starts begin) in
+            roots-scanned limits old phase.calls ready out ran s linked sees handed c.0 c.1 some o root;
+        old = λ begin some none o reach. let c = begun_cycle s (starts begin) in
+            old-scanned limits old phase.calls ready out ran s linked sees handed c.0 c.1 can some none o reach;
+        lists = ran.lists;
+        meet = belongs;
+      };
+      puts = puts_of_all-phase limits phase.calls out.replies s ran.history can.range.mutators.1 can.range.markers can.lists ran.lists legal (ran.calls_made s base) (ran.scans s base) ran.numbers;
+      sees = Sees-worked limits old phase.calls ready out ran new same long many listed kept s sees;
+      handed = HandsOver-worked limits old phase.calls ready out ran new same long many listed kept s linked sees handed;
+    }
