@@ -1,6 +1,6 @@
 -- What the top call answers and writes: the words that it knows, the exit status of each answer, and the text of
 -- an answer to the bytes of a script.
-use Rattle.std.specs.Prelude.{◌≡◌, ℕ, ◌<◌, ◌≤◌, if◌then◌else◌, false, List, [], ◌∷◌, length, take, codes, Option, Some, None, Ok, Err}
+use Rattle.std.specs.Prelude.{◌≡◌, ℕ, ◌<◌, ◌≤◌, if◌then◌else◌, List, [], ◌∷◌, length, take, codes, Option, Some, None, Ok, Err}
 use Rattle.std.specs.Str.{bytes_eq}
 use Rattle.plain_table.specs.declared.scripts.Script.{Script}
 use Rattle.plain_table.specs.declared.reports.Outcome.{Outcome}

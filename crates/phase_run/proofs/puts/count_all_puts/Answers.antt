@@ -1,5 +1,5 @@
 -- Each turn counts the puts of one mutator more; where one list has ended, the rest puts nothing.
-use Rattle.std.proofs.Common.{◌≡◌, ◌⊎◌, ◌+◌, ◌≤◌, ℕ, List, [], ◌∷◌, length, ◌∙◌, refl, inl, inr, ap, arith}
+use Rattle.std.proofs.Common.{◌≡◌, ◌⊎◌, List, [], ◌∷◌, length, ◌∙◌, refl, inl, inr, ap, arith}
 use Rattle.plain_table.specs.declared.scripts.Op.{Op}
 use Rattle.plain_table.specs.declared.reports.Reply.{Reply}
 use Rattle.script_reader.specs.Valid.{lists_length}
