@@ -5,3 +5,4 @@ pub mod Meets
 pub mod PhaseRuns
 pub mod ScriptRuns
 pub mod ValidRuns
+pub mod LiveCells

@@ -11,6 +11,7 @@ mod dispatch;
 mod run;
 #[cfg(test)]
 mod run_tests;
+mod soak;
 #[cfg(test)]
 mod space_tests;
 #[cfg(test)]
