@@ -62,8 +62,7 @@ CanRun-valid script valid k d within =
     let phase = valid.each k d within in
     let most = phase-few script valid k d within in
     record {
-      mutators = valid.limits.mutators;
-      markers = valid.limits.markers;
+      range = range_of script.limits valid.limits;
       lists = phase.lists;
       valid = λ i e inside j o later. op-upgraded script.version (get_or (get_or (get_or script.phases k d).calls i e) j o) (phase.each i e inside j o later);
       few = λ i e inside. let one = list-few (get_or script.phases k d).calls i e inside in omega (arith, one, most);

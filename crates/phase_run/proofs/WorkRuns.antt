@@ -37,7 +37,7 @@ WorksEach-ran limits old new phase ready can out ran same long many listed kept 
     lists = ran.lists;
     meet = belongs;
   };
-  puts = puts_of_all-phase limits phase.calls out.replies s ran.history can.mutators.1 can.markers can.lists ran.lists legal (ran.calls_made s base) (ran.scans s base) ran.numbers;
+  puts = puts_of_all-phase limits phase.calls out.replies s ran.history can.range.mutators.1 can.range.markers can.lists ran.lists legal (ran.calls_made s base) (ran.scans s base) ran.numbers;
   sees = Sees-worked limits old phase.calls ready out ran new same long many listed kept s sees;
   handed = HandsOver-worked limits old phase.calls ready out ran new same long many listed kept s linked sees handed;
 }
