@@ -1,0 +1,9 @@
+pub mod PhaseHistories
+pub mod MeetRuns
+pub mod Listed
+pub mod Works
+pub mod PutCounts
+pub mod OldObjects
+pub mod WorkRuns
+pub mod ValidRuns
+pub mod ScriptRuns
