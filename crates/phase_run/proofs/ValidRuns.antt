@@ -1,9 +1,8 @@
 -- What a run relies on within a valid script: each phase has a list of valid calls for each mutator, a cycle starts only outside one
 -- and is finished only in one, and there are few operations.
 use Rattle.std.proofs.Common.{◌≡◌, ℕ, zero, suc, ◌+◌, ◌<◌, ◌≤◌, Bool, true, false, Option, Some, List, [], ◌∷◌, ◌++◌, length, get_or, take, refl, sym, ◌∙◌, ap, subst, arith}
-use Rattle.std.specs.Prelude.{◌==◌, if◌then◌else◌}
+use Rattle.std.specs.Prelude.{if◌then◌else◌}
 use Rattle.std.specs.Option.{option_and_then}
-use Rattle.std.specs.List.{All}
 use Rattle.std.proofs.lemmas.List.{take_more}
 use Rattle.std.proofs.Math.Nat.{mul-le-mul_left, div-add-mod}
 use Rattle.plain_table.specs.declared.scripts.Limits.{Limits}
@@ -14,7 +13,7 @@ use Rattle.plain_table.specs.declared.scripts.Phase.{Phase}
 use Rattle.plain_table.specs.declared.scripts.Script.{Script}
 use Rattle.plain_table.specs.Ranges.{IsInRange}
 use Rattle.script_reader.specs.Lines.{most_operations}
-use Rattle.script_reader.specs.Valid.{IsValidLimits, IsValidOp, IsValidPhase, IsValidScript, lists_length, meet_after, meets_after, operations_of}
+use Rattle.script_reader.specs.Valid.{IsValidLimits, IsValidScript, lists_length, meet_after, meets_after, operations_of}
 use Rattle.script_reader.proofs.Upgrading.{op-upgraded}
 use Rattle.phases.specs.Phases.{CanRun}
 use Rattle.phase_run.specs.Meets.{IsMeetAt, word_after, words_after}

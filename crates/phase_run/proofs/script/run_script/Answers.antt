@@ -3,8 +3,6 @@ use Rattle.std.proofs.Common.{◌≡◌, ℕ, ◌+◌, ◌<◌, List, [], length
 use Rattle.std.proofs.lemmas.List.{take_all}
 use Rattle.plain_table.specs.declared.scripts.Phase.{Phase}
 use Rattle.plain_table.specs.declared.reports.PhaseReport.{PhaseReport}
-use Rattle.plain_table.specs.Table.{Sizes}
-use Rattle.script_reader.specs.Lines.{most_operations}
 use Rattle.script_reader.specs.Valid.{lists_length}
 use Rattle.entry_word.specs.Image.{sizes_of}
 use Rattle.phases.specs.Phases.{CanRun}
