@@ -7,6 +7,15 @@ use script_reader::ScriptErr;
 /// What the words ask for.
 #[derive(Clone, Copy, Debug, PartialEq, Eq)]
 pub enum Form {
+    /// This of a script, which is read.
+    OfScript(Asked),
+    /// To run the generated script of a seed, and to write the line that sums its outcome up.
+    Soak { seed: u64 },
+}
+
+/// What is asked of a script.
+#[derive(Clone, Copy, Debug, PartialEq, Eq)]
+pub enum Asked {
     /// To run the script.
     Run,
     /// To print the script in its canonical form.

@@ -1,5 +1,5 @@
 // The top call, from the words and the source to the sink.
-ghost use Rattle.std.specs.Prelude.{◌≡◌, ◌≢◌, ◌⊎◌, ◌+◌, ◌<◌, ◌≤◌, ◌↔◌, ℕ, false, length, map, None, Some, IfErr, IfOk, IfSome, string_bytes};
+ghost use Rattle.std.specs.Prelude.{◌≡◌, ◌≢◌, ◌⊎◌, ◌+◌, ◌<◌, ◌≤◌, ◌↔◌, ◌∷◌, [], ℕ, false, length, map, None, Some, IfErr, IfOk, IfSome, string_bytes};
 ghost use Rattle.std.specs.Io.KnownBytes.{IsAtEnd};
 ghost use Rattle.plain_table.specs.declared.scripts.Script.{Script};
 ghost use Rattle.ept_io.specs.Faults.{Rose};
@@ -7,14 +7,17 @@ ghost use Rattle.script_reader.specs.declared.refusals.ScriptErr.{ScriptErr};
 ghost use Rattle.script_reader.specs.Canonical.{canonical_of};
 ghost use Rattle.script_reader.specs.Grammar.{script_of};
 ghost use Rattle.script_reader.specs.Valid.{IsValidScript};
+ghost use Rattle.table_run.specs.declared.answers.Asked.{Asked};
 ghost use Rattle.table_run.specs.declared.answers.Form.{Form};
-ghost use Rattle.table_run.specs.Top.{EachTextFits, IsAskedText, IsReportOf, IsSilent, IsTextOf, WroteAll, WrotePart, form_of, form_of_word, most_bytes};
+ghost use Rattle.table_run.specs.Top.{EachLineFits, EachTextFits, IsAskedText, IsReportOf, IsSilent, IsTextOf, WroteAll, WroteLine, WrotePart, WrotePartOfLine, form_of, most_bytes};
 
-use crate::answers::{Form, Status};
+use crate::answers::{Asked, Form, Status};
+use crate::soak::soak;
 use ept_io::{ReadErr, Sink, Source, read_script, write_all};
 use phase_run::{Open, run_script};
 use plain_table::Script;
 use report_text::{fault_text, text};
+use script_generator::seed_of;
 use script_reader::{OutOfMemory, ScriptErr, parse, print, upgrade};
 use std::alloc::Global;
 use std::thread::Threads;
@@ -22,9 +25,10 @@ use std::thread::Threads;
 /// The most bytes of a script.
 const MOST_BYTES: usize = 4_194_304;
 
-/// Does all that the program does. `args` are the words after the program's name, `run`, `check` or `upgrade`. It reads a
-/// script from `src` to its end, and writes to `out` the report of its run, its canonical text, that of the script in
-/// version 2, or the text of its refusal. Takes no memory once it writes.
+/// Does all that the program does. `args` are the words after the program's name: `run`, `check` or `upgrade` alone, or `soak` and
+/// a seed below 2^64 in decimal digits with no leading zero. By the first three it reads a script from `src` to its end, and writes
+/// to `out` the report of its run, its canonical text, that of the script in version 2, or the text of its refusal. By `soak` it
+/// reads nothing, and writes the line that sums up the run of the generated script of the seed. Takes no memory once it writes.
 pub fn run_main<R: Threads + Sync, S: Source, K: Sink>(
     rt: &R,
     alloc: Global,
@@ -34,14 +38,15 @@ pub fn run_main<R: Threads + Sync, S: Source, K: Sink>(
 ) -> Status
     // The source was read to its end, and the whole text was written: the report of an outcome that belongs to the
     // script, the canonical text, or that of the script in version 2.
-    ensures ok { (form : Form) → form_of (map string_bytes args.now) ≡ Some form → result ≡ Status.Ok →
-        IfSome (S.left src.old) (λ bytes. WroteAll form bytes Status.Ok (K.written out.old) (K.written out.new)) }
-    ensures ok_end { result ≡ Status.Ok → IsAtEnd (S.left src.new) }
+    ensures ok { (asked : Asked) → form_of (map string_bytes args.now) ≡ Some (Form.OfScript asked) → result ≡ Status.Ok →
+        IfSome (S.left src.old) (λ bytes. WroteAll asked bytes Status.Ok (K.written out.old) (K.written out.new)) }
+    ensures ok_end { (asked : Asked) → form_of (map string_bytes args.now) ≡ Some (Form.OfScript asked) → result ≡ Status.Ok →
+        IsAtEnd (S.left src.new) }
 
     // A refused script: the refusal of its first bad line, and the text of that alone.
-    ensures refused { (form : Form) → form_of (map string_bytes args.now) ≡ Some form →
+    ensures refused { (asked : Asked) → form_of (map string_bytes args.now) ≡ Some (Form.OfScript asked) →
         (e : ScriptErr) → result ≡ Status.Refused e → IfSome (S.left src.old) (λ bytes.
-        WroteAll form bytes (Status.Refused e) (K.written out.old) (K.written out.new)) }
+        WroteAll asked bytes (Status.Refused e) (K.written out.old) (K.written out.new)) }
     ensures refused_end { (e : ScriptErr) → result ≡ Status.Refused e → IsAtEnd (S.left src.new) }
     ensures named { result ≢ Status.Refused ScriptErr.OutOfMemory }
 
@@ -59,29 +64,45 @@ pub fn run_main<R: Threads + Sync, S: Source, K: Sink>(
         (result ≡ Status.TooLong) ↔ (most_bytes + length rest < length all))) }
 
     // What stands in the sink after the other answers.
-    ensures cut_short { (form : Form) → form_of (map string_bytes args.now) ≡ Some form → result ≡ Status.WriteFault →
-        IfSome (S.left src.old) (λ bytes. WrotePart form bytes (K.written out.old) (K.written out.new)) }
+    ensures cut_short { (asked : Asked) → form_of (map string_bytes args.now) ≡ Some (Form.OfScript asked) → result ≡ Status.WriteFault →
+        IfSome (S.left src.old) (λ bytes. WrotePart asked bytes (K.written out.old) (K.written out.new)) }
     ensures silent { IsSilent result → K.written out.new ≡ K.written out.old }
 
     // A steady source, and a sink with room for each text that the script's bytes may have, have no fault.
     ensures steady { S.is_steady src.old → (result ≢ Status.ReadFault) × (S.faults src.new ≡ S.faults src.old) }
-    ensures room { (form : Form) → form_of (map string_bytes args.now) ≡ Some form →
-        (room : ℕ) → K.has_room out.old room → IfSome (S.left src.old) (λ bytes. EachTextFits form bytes room →
+    ensures room { (asked : Asked) → form_of (map string_bytes args.now) ≡ Some (Form.OfScript asked) →
+        (room : ℕ) → K.has_room out.old room → IfSome (S.left src.old) (λ bytes. EachTextFits asked bytes room →
         (result ≢ Status.WriteFault) × (K.faults out.new ≡ K.faults out.old)) }
 
     // With no fault, and a script within the limit, only want of memory stands in place of its answer.
-    ensures answers { (form : Form) → form_of (map string_bytes args.now) ≡ Some form →
+    ensures answers { (asked : Asked) → form_of (map string_bytes args.now) ≡ Some (Form.OfScript asked) →
         ¬ Rose (S.faults src.old) (S.faults src.new) → ¬ Rose (K.faults out.old) (K.faults out.new) →
         IfSome (S.left src.old) (λ bytes. length bytes ≤ most_bytes →
         (script : Script) → script_of bytes ≡ Ok script →
         (result ≡ Status.Ok) ⊎ (result ≡ Status.OutOfMemory)) }
-    ensures refuses { form_of (map string_bytes args.now) ≢ None →
+    ensures refuses { (asked : Asked) → form_of (map string_bytes args.now) ≡ Some (Form.OfScript asked) →
         ¬ Rose (S.faults src.old) (S.faults src.new) → ¬ Rose (K.faults out.old) (K.faults out.new) →
         IfSome (S.left src.old) (λ bytes. length bytes ≤ most_bytes →
         (e : ScriptErr) → script_of bytes ≡ Err e → (result ≡ Status.Refused e) ⊎ (result ≡ Status.OutOfMemory)) }
+
+    // `soak N`: nothing is read, no refusal or read fault comes, and the line that sums up an outcome of the script of the seed was
+    // written, or a front part of it where a write failed. With room for each such line no write fails.
+    ensures soak { (seed : ℕ) → form_of (map string_bytes args.now) ≡ Some (Form.Soak seed) → result ≡ Status.Ok →
+        WroteLine seed (K.written out.old) (K.written out.new) }
+    ensures soak_unread { (seed : ℕ) → form_of (map string_bytes args.now) ≡ Some (Form.Soak seed) →
+        S.left src.new ≡ S.left src.old }
+    ensures soak_answers { (seed : ℕ) → form_of (map string_bytes args.now) ≡ Some (Form.Soak seed) →
+        (result ≡ Status.Ok) ⊎ (result ≡ Status.WriteFault) ⊎ (result ≡ Status.OutOfMemory) }
+    ensures soak_cut_short { (seed : ℕ) → form_of (map string_bytes args.now) ≡ Some (Form.Soak seed) →
+        result ≡ Status.WriteFault → WrotePartOfLine seed (K.written out.old) (K.written out.new) }
+    ensures soak_room { (seed : ℕ) → form_of (map string_bytes args.now) ≡ Some (Form.Soak seed) →
+        (room : ℕ) → K.has_room out.old room → EachLineFits seed room →
+        (result ≢ Status.WriteFault) × (K.faults out.new ≡ K.faults out.old) }
 {
-    let Some(form) = known_form(args) else {
-        return Status::Usage;
+    let asked = match known_form(args) {
+        Some(Form::OfScript(asked)) => asked,
+        Some(Form::Soak { seed }) => return soak(rt, alloc, seed, out),
+        None => return Status::Usage,
     };
     let bytes = match read_script(alloc, src, MOST_BYTES) {
         Ok(bytes) => bytes,
@@ -89,7 +110,7 @@ pub fn run_main<R: Threads + Sync, S: Source, K: Sink>(
         Err(ReadErr::TooLong) => return Status::TooLong,
         Err(ReadErr::OutOfMemory) => return Status::OutOfMemory,
     };
-    let answer = match answer_to(rt, alloc, form, &bytes) {
+    let answer = match answer_to(rt, alloc, asked, &bytes) {
         Ok(answer) => answer,
         Err(status) => return status,
     };
@@ -104,23 +125,34 @@ fn known_form(args: &[String]) -> Option<Form>
     ensures { result ≡ form_of (map string_bytes args.now) }
 {
     match args {
-        [word] => form_of_word(word.as_str()),
+        [word] => form_of_script(word.as_str()),
+        [word, number] => form_of_soak(word.as_str(), number.as_str()),
         _ => None,
     }
 }
 
-fn form_of_word(word: &str) -> Option<Form>
-    ensures { result ≡ form_of_word word.now }
+fn form_of_script(word: &str) -> Option<Form>
+    ensures { result ≡ form_of (word.now ∷ []) }
 {
     if word == "run" {
-        Some(Form::Run)
+        Some(Form::OfScript(Asked::Run))
     } else if word == "check" {
-        Some(Form::Check)
+        Some(Form::OfScript(Asked::Check))
     } else if word == "upgrade" {
-        Some(Form::Upgrade)
+        Some(Form::OfScript(Asked::Upgrade))
     } else {
         None
     }
+}
+
+fn form_of_soak(word: &str, number: &str) -> Option<Form>
+    ensures { result ≡ form_of (word.now ∷ number.now ∷ []) }
+{
+    if word != "soak" {
+        return None;
+    }
+    let seed = seed_of(number)?;
+    Some(Form::Soak { seed })
 }
 
 /// An answer, and its whole text.
@@ -130,21 +162,21 @@ struct Answer {
     text: String,
 }
 
-/// Reads the script of these bytes, and does what the form asks for. The statuses that have no text are errors.
+/// Reads the script of these bytes, and does what is asked of it. The statuses that have no text are errors.
 fn answer_to<R: Threads + Sync>(
     rt: &R,
     alloc: Global,
-    form: Form,
+    asked: Asked,
     bytes: &[u8],
 ) -> Result<Answer, Status>
-    ensures text { IfOk result (λ answer. IsTextOf form bytes.now answer.status (string_bytes answer.text)) }
+    ensures text { IfOk result (λ answer. IsTextOf asked bytes.now answer.status (string_bytes answer.text)) }
     ensures named { IfOk result (λ answer. answer.status ≢ Status.Refused ScriptErr.OutOfMemory) }
     ensures silent { IfErr result (λ status. status ≡ Status.OutOfMemory) }
 {
     match parse(alloc, bytes) {
         Ok(script) => Ok(Answer {
             status: Status::Ok,
-            text: asked_text(rt, alloc, form, script)?,
+            text: asked_text(rt, alloc, asked, script)?,
         }),
         Err(ScriptErr::OutOfMemory) => Err(Status::OutOfMemory),
         Err(refusal) => match fault_text(alloc, &refusal) {
@@ -157,21 +189,21 @@ fn answer_to<R: Threads + Sync>(
     }
 }
 
-/// The text that the form asks for.
+/// The text that is asked of the script.
 fn asked_text<R: Threads + Sync>(
     rt: &R,
     alloc: Global,
-    form: Form,
+    asked: Asked,
     script: Script,
 ) -> Result<String, Status>
     requires { IsValidScript script }
-    ensures text { IfOk result (λ text. IsAskedText form script (string_bytes text)) }
+    ensures text { IfOk result (λ text. IsAskedText asked script (string_bytes text)) }
     ensures silent { IfErr result (λ status. status ≡ Status.OutOfMemory) }
 {
-    match form {
-        Form::Run => report_of_run(rt, alloc, &script),
-        Form::Check => printed(alloc, &script),
-        Form::Upgrade => printed(alloc, &upgrade(script)),
+    match asked {
+        Asked::Run => report_of_run(rt, alloc, &script),
+        Asked::Check => printed(alloc, &script),
+        Asked::Upgrade => printed(alloc, &upgrade(script)),
     }
 }
 

@@ -1,0 +1,43 @@
+// The words `soak N`: runs of generated scripts, with eight mutators and four markers on threads.
+use crate::Status;
+use crate::tests::{check, plain};
+use std::test::Fail;
+
+#[test]
+fn a_soak_writes_the_line_of_its_seed(rt: HostRuntime) -> Result<(), Fail> {
+    for (seed, line) in [
+        ("0", "soak live=1200 sum=00000057d140 gone=8400\n"),
+        ("1", "soak live=1200 sum=00000057d5f0 gone=8400\n"),
+        (
+            "281474976710655",
+            "soak live=1200 sum=00000057cc90 gone=8400\n",
+        ),
+    ] {
+        check(
+            &rt,
+            plain(&["soak", seed]),
+            &["no script\n"],
+            Status::Ok,
+            line,
+        )?;
+    }
+    Ok(())
+}
+
+#[test]
+fn words_that_spell_no_seed_are_usage(rt: HostRuntime) -> Result<(), Fail> {
+    for words in [
+        ["soak", "01"].as_slice(),
+        &["soak"],
+        &["soak", "x"],
+        &["soak", ""],
+        &["soak", "-1"],
+        &["soak", "18446744073709551616"],
+        &["Soak", "1"],
+        &["run", "1"],
+        &["soak", "1", "2"],
+    ] {
+        check(&rt, plain(words), &["end\n"], Status::Usage, "")?;
+    }
+    Ok(())
+}
