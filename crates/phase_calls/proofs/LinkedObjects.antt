@@ -76,12 +76,12 @@ others_held : (s : Table) (e : Event) (b : ℕ) → IsSound s → IsLegal s e �
 others_held s e b sound legal during other = λ i v. (events-steady s e sound legal during).others.variables b v (λ same. other (sym same)) i
 
 -- an element of a list, by its place and by its beginning
-pub Has-contains : (xs : List ℕ) (x : ℕ) → Contains xs x → Has xs x
+pub Has-contains : {A : Type 0} (xs : List A) (x : A) → Contains xs x → Has xs x
 Has-contains [] x (k, low, is) = absurd (omega (arith, low))
 Has-contains (y ∷ ys) x (zero, low, is) = inl is
 Has-contains (y ∷ ys) x (suc k, low, is) = inr (Has-contains ys x (k, omega (arith, low), is))
 
-pub Contains-has : (xs : List ℕ) (x : ℕ) → Has xs x → Contains xs x
+pub Contains-has : {A : Type 0} (xs : List A) (x : A) → Has xs x → Contains xs x
 Contains-has (y ∷ ys) x (inl is) = (0, omega arith, is)
 Contains-has (y ∷ ys) x (inr there) = let rest = Contains-has ys x there in let low = rest.1 in (suc rest.0, omega (arith, low), rest.2)
 Contains-has [] x there = absurd there

@@ -27,6 +27,7 @@ use Rattle.table_laws.proofs.Steadiness.{events-steady}
 use Rattle.entry_base.specs.Lists.{Each}
 use Rattle.entry_base.specs.Numbers.{IsPhaseEvent}
 use Rattle.mutator_calls.proofs.Kept.{AreDuringPhase}
+use Rattle.table_laws.proofs.PauseKeeps.{CycleSteady-join}
 use Rattle.phase_calls.proofs.LinkedObjects.{IsLinkless}
 
 pub AreDuringPhase-each : (es : List Event) → Each IsPhaseEvent es → AreDuringPhase es
@@ -34,25 +35,9 @@ AreDuringPhase-each [] each = tt
 AreDuringPhase-each (e ∷ es) each = (each.0.1, AreDuringPhase-each es each.1)
 
 -- the cycle under way
-CycleSteady-then : (a b c : Cycle) → CycleSteady a b → CycleSteady b c → CycleSteady a c
-CycleSteady-then a b c one two = record {
-  start = two.start ∙ one.start;
-  refs = two.refs ∙ one.refs;
-  globals = two.globals ∙ one.globals;
-  vars = two.vars ∙ one.vars;
-  words = two.words ∙ one.words;
-  aborted = λ is. two.aborted (one.aborted is);
-  marks = λ p i is. two.marks p i (one.marks p i is);
-  evac = λ i number is. two.evac i number (one.evac i number is);
-  visited = λ number is. two.visited number (one.visited number is);
-  born = λ o is. two.born o (one.born o is);
-  scans = λ o is. two.scans o (one.scans o is);
-  came = λ f w is. two.came f w (one.came f w is);
-}
-
 CyclesSteady-then : (a b c : Option Cycle) → CyclesSteady a b → CyclesSteady b c → CyclesSteady a c
 CyclesSteady-then None None None one two = tt
-CyclesSteady-then (Some a) (Some b) (Some c) one two = CycleSteady-then a b c one two
+CyclesSteady-then (Some a) (Some b) (Some c) one two = CycleSteady-join a b c one two
 CyclesSteady-then None None (Some c) one two = absurd two
 CyclesSteady-then None (Some b) c one two = absurd one
 CyclesSteady-then (Some a) None c one two = absurd one

@@ -15,10 +15,11 @@ use Rattle.entry_base.specs.Hands.{LeavesToScan, grey}
 use Rattle.entry_base.specs.Lists.{Has, count_in}
 use Rattle.entry_base.specs.Openings.{IsBase, opening_of, sizes_in}
 use Rattle.entry_base.proofs.Sums.{each_map, has_count}
+use Rattle.phase_calls.proofs.LinkedObjects.{Has-contains}
 use Rattle.phases.specs.declared.phases.PhaseOut.{PhaseOut}
 use Rattle.phases.specs.Phases.{Ran}
 use Rattle.phases.specs.Workers.{Worked}
-use Rattle.phases.proofs.Lists.{Has-contains, count-has}
+use Rattle.phases.proofs.Lists.{count-has}
 use Rattle.phases.proofs.Scanned.{WasScanned-after, grey-some, header-scanned}
 
 module _ (limits : Limits) (key : Opening) (calls : List (List Op)) (owed : List ℕ) (out : PhaseOut) (w : View) (opened : w.opening ≡ key)

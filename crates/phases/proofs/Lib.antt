@@ -6,7 +6,6 @@ pub mod Played
 pub mod Whole
 pub mod Scanned
 pub mod Closed
-pub mod Pushed
 pub mod Working
 pub mod Cuts
 pub mod Joins

@@ -6,19 +6,10 @@ use Rattle.plain_table.specs.declared.events.Event.{Event}
 use Rattle.plain_table.specs.Belongs.{events_by}
 use Rattle.entry_base.specs.Lists.{Each, Has, count_in, total}
 use Rattle.entry_base.proofs.Sums.{count_self}
+use Rattle.phase_calls.proofs.LinkedObjects.{Contains-has}
 
--- an element of a list stands at some place of it
+-- elements of a list and their places
 module _ {A : Type 0} where
-  pub Contains-has : (xs : List A) (x : A) → Has xs x → Contains xs x
-  Contains-has [] x has = absurd has
-  Contains-has (y ∷ ys) x (inl same) = (0, omega arith, same)
-  Contains-has (y ∷ ys) x (inr has) = let c = Contains-has ys x has in (suc c.0, omega (arith, c.1), c.2)
-
-  pub Has-contains : (xs : List A) (x : A) → Contains xs x → Has xs x
-  Has-contains [] x c = absurd (omega (arith, c.1))
-  Has-contains (y ∷ ys) x (zero, low, same) = inl same
-  Has-contains (y ∷ ys) x (suc k, low, same) = inr (Has-contains ys x (k, omega (arith, low), same))
-
   pub Any-has : (P : A → Type 0) (xs : List A) (x : A) → Has xs x → P x → Any P xs
   Any-has P xs x has holds = let c = Contains-has xs x has in (c.0, x, c.1, c.2, holds)
 

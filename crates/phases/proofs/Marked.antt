@@ -166,7 +166,7 @@ total-sum_below f (x ∷ xs) g same =
     let rest = total-sum_below f xs (λ i. g (suc i)) (λ i d low. same (suc i) d (omega (arith, low))) in
     omega (arith, first, here, rest)
 
-element_at : {A : Type 0} (xs : List A) (i : ℕ) → i < length xs → A
+pub element_at : {A : Type 0} (xs : List A) (i : ℕ) → i < length xs → A
 element_at [] i low = absurd (omega (arith, low))
 element_at (x ∷ xs) zero low = x
 element_at (x ∷ xs) (suc i) low = element_at xs i (omega (arith, low))

@@ -26,12 +26,12 @@ use Rattle.call_base.proofs.ScanParts.{Scans-others}
 use Rattle.phase_calls.specs.Calls.{linked_by}
 use Rattle.phase_calls.proofs.CallRows.{MakesCalls-acts}
 use Rattle.phase_calls.proofs.HistoryEvents.{count_by-numbers, sum_below}
-use Rattle.phase_calls.proofs.LinkedObjects.{IsLinkless-by_scans, linked_after-has, linked_after-members, linked_by-none}
+use Rattle.phase_calls.proofs.LinkedObjects.{Contains-has, Has-contains, IsLinkless-by_scans, linked_after-has, linked_after-members, linked_by-none}
 use Rattle.phase_calls.proofs.ShapeEvents.{IsCallAct, count_by-calls}
 use Rattle.phases.specs.Phases.{is_scan}
 use Rattle.phases.specs.Sessions.{TookIn}
 use Rattle.phases.specs.Workers.{Worked}
-use Rattle.phases.proofs.Lists.{All-each, Any-has, Contains-has, Each-at, Each-first, Each-has, Has-contains, Has-events, count-has, events_by-absent, events_by-none, total-at, total-none, total-some}
+use Rattle.phases.proofs.Lists.{All-each, Any-has, Each-at, Each-first, Each-has, Has-events, count-has, events_by-absent, events_by-none, total-at, total-none, total-some}
 use Rattle.phases.proofs.Played.{Played}
 
 -- the views of the markers after they ran: their numbers begin at 8, they hold nothing and cut nothing off, their events are scans,

@@ -1,7 +1,7 @@
 -- The work of a phase, from its opening to the session that took all workers in.
 use Rattle.std.proofs.Common.{◌≡◌, ◌≢◌, ◌⊎◌, ℕ, zero, suc, ◌<◌, ◌≤◌, nat_lt, ◌==◌, if◌then◌else◌, Bool, true, false, List, [], ◌∷◌, ◌++◌, Option, Some, None, length, map, get_or, slice_index, refl, sym, ap, subst, ◌∙◌, inr, ⊎_elim, arith, append-nil}
 use Rattle.std.proofs.lemmas.Bool.Decides.{nat_tests}
-use Rattle.std.proofs.lemmas.List.{length-map}
+use Rattle.std.proofs.lemmas.List.{get_or-map, length-map}
 use Rattle.plain_table.specs.declared.scripts.Limits.{Limits}
 use Rattle.plain_table.specs.declared.scripts.Op.{Op}
 use Rattle.plain_table.specs.declared.reports.Reply.{Reply}
@@ -28,19 +28,10 @@ use Rattle.phases.specs.Sessions.{GaveOut, IsGiven, TookIn}
 use Rattle.phases.specs.Workers.{CalledAll, Worked}
 use Rattle.marker.proofs.Counts.{length_few}
 use Rattle.phases.proofs.Lists.{Each-has, count-has}
+use Rattle.phases.proofs.Marked.{element_at}
 use Rattle.phases.proofs.Played.{Played, Played-worker}
 use Rattle.phases.proofs.Scanned.{grey-outside, grey-some}
 use Rattle.phases.proofs.Whole.{MarkersWorked, MarkersWorked-none, worked}
-
--- an element by its place, and an element of a list that another was made of
-nth : {A : Type 0} (xs : List A) (i : ℕ) → i < length xs → A
-nth [] i low = absurd (omega (arith, low))
-nth (x ∷ xs) i low = x
-
-map-at : {A B : Type 0} (f : A → B) (xs : List A) (i : ℕ) (d : B) (e : A) → i < length xs → get_or (map f xs) i d ≡ f (get_or xs i e)
-map-at f [] i d e low = absurd (omega (arith, low))
-map-at f (x ∷ xs) zero d e low = refl
-map-at f (x ∷ xs) (suc i) d e low = map-at f xs i d e (omega (arith, low))
 
 -- the first session has each number up to 12
 pub first_numbers : (key : Opening) (n : ℕ) → n ≤ 12 → HasNumber (first_view key) n
@@ -96,11 +87,11 @@ module _ (limits : Limits) (key : Opening) (open_with : IsOpenable key) (calls :
   played : (i : ℕ) (d : View) → i < limits.mutators → Played key i (get_or calls i []) (get_or replies i []) (get_or (map (λ (x : Worker). view x.session) after) i d)
   played i d low =
       let within : i < length after = omega (arith, low, as_many) in
-      let e = nth after i within in
+      let e = element_at after i within in
       let made = all.called.each i e (omega (arith, low, many, (let l = can.lists in l))) in
-      subst (Played key i (get_or calls i []) (get_or replies i [])) (sym (map-at (λ (x : Worker). view x.session) after i d e within))
+      subst (Played key i (get_or calls i []) (get_or replies i [])) (sym (get_or-map (λ (x : Worker). view x.session) after i e d within))
       (subst (λ (rs : List Reply). Played key i (get_or calls i []) rs (view (get_or after i e).session))
-      (sym (ap (λ (l : List (List Reply)). get_or l i []) all.replied ∙ map-at (λ (x : Worker). x.replies.items) after i [] e within))
+      (sym (ap (λ (l : List (List Reply)). get_or l i []) all.replied ∙ get_or-map (λ (x : Worker). x.replies.items) after i e [] within))
       (Played-worker key open_with.small (first_view key) refl refl refl refl i (let m = can.range.mutators.1 in omega (arith, low, m)) (get_or calls i []) (get_or after i e).replies.items
       (view (get_or workers i e).session) (view (get_or after i e).session) (given i e (let l = can.lists in omega (arith, low, l))) made.makes))
 

@@ -6,7 +6,8 @@ use Rattle.entry_base.specs.declared.view.View.{View}
 use Rattle.entry_base.specs.Sessions.{view, IsOf}
 use Rattle.phases.specs.declared.mutators.Worker.{Worker}
 use Rattle.phases.specs.Sessions.{TookIn}
-use Rattle.phases.proofs.Pushed.{next-below, next-there}
+use Rattle.phases.proofs.Joins.{all_there}
+use Rattle.phases.proofs.Pushes.{place_below}
 use Rattle.phases.proofs.Taken.{TookIn-more}
 use Rattle.phases.proofs.mutators.join_workers.Goals as goal
 
@@ -30,14 +31,13 @@ pub join-requires : goal.join-requires
 join-requires c =
     let i = c.loop-worker.invariant in
     let all = ap (λ l. c.loop-worker.yielded ++ l) (sym c.in-Some.ensures.steps.0) ∙ i.all in
-    let there = next-there c.loop-worker.yielded _ c.args.workers.items c.in-Some.worker c.in-Some.worker all in
-    record { callers = (i.caller, subst (λ (w : Worker). IsOf c.args.shared.now w.session) there (c.requires.callers (length c.loop-worker.yielded) c.in-Some.worker (next-below c.loop-worker.yielded _ c.args.workers.items c.in-Some.worker all))) }
+    record { callers = (i.caller, all_there (λ (w : Worker). IsOf c.args.shared.now w.session) c.loop-worker.yielded c.in-Some.worker _ c.args.workers.items all c.requires.callers) }
 
 pub push_reserved-requires : goal.push_reserved-requires
 push_reserved-requires c =
     let i = c.loop-worker.invariant in
     let all = ap (λ l. c.loop-worker.yielded ++ l) (sym c.in-Some.ensures.steps.0) ∙ i.all in
-    let below = next-below c.loop-worker.yielded _ c.args.workers.items c.in-Some.worker all in
+    let below = place_below c.loop-worker.yielded _ c.args.workers.items c.in-Some.worker all in
     let many = ap length i.replied in
     let same = length-map c.loop-worker.yielded (λ (w : Worker). w.replies.items) in
     let room = i.room in

@@ -6,7 +6,7 @@ use Rattle.phases.specs.declared.mutators.Worker.{Worker}
 use Rattle.phases.specs.Sessions.{GaveOut, IsGiven}
 use Rattle.phases.specs.Workers.{MayCall}
 use Rattle.phases.proofs.Given.{GaveOut-more, IsGiven-new}
-use Rattle.phases.proofs.Pushed.{each-pushed}
+use Rattle.phases.proofs.Pushes.{placed_pushed}
 use Rattle.phases.proofs.mutators.split_workers.Goals as goal
 
 pub loop-number-preserved : goal.loop-number-preserved
@@ -24,7 +24,7 @@ loop-number-preserved c =
       gave = GaveOut-more (view c.args.first.now) (view c.loop-number.first) (view c.split-session.new.self) 0 n n i.gave (omega arith) (c.requires.numbers.0 n (let f = c.requires.few in omega (arith, f, below))) s.left;
       long = let l = ap length items in let m = length-append c.loop-number.workers.items (worker ∷ []) in let k = i.long in omega arith;
       room = let a = i.room in let b = c.push_reserved.ensures.capacity in omega arith;
-      may = each-pushed (λ k w. MayCall c.args.shared.now (slice_index_or c.args.calls.now k []) w) c.loop-number.workers.items c.push_reserved.new.self.items n worker items i.long i.may
+      may = placed_pushed (λ k w. MayCall c.args.shared.now (slice_index_or c.args.calls.now k []) w) c.loop-number.workers.items c.push_reserved.new.self.items n worker items i.long i.may
           (record {
             caller = s.callers.1;
             mutator = let k = given.number in let f = c.requires.few in omega (arith, k, f, below);
@@ -33,7 +33,7 @@ loop-number-preserved c =
             valid = c.requires.valid n [] below;
             few = c.requires.short n [] below;
           });
-      given = each-pushed (λ k w. IsGiven (view c.args.first.now) k (view w.session)) c.loop-number.workers.items c.push_reserved.new.self.items n worker items i.long i.given given;
+      given = placed_pushed (λ k w. IsGiven (view c.args.first.now) k (view w.session)) c.loop-number.workers.items c.push_reserved.new.self.items n worker items i.long i.given given;
     }
 
 pub returns-clause-gave : goal.returns-clause-gave
