@@ -1,5 +1,5 @@
 -- The seed of the words is the one that was run.
-use Rattle.std.proofs.Common.{◌≡◌, ℕ, subst, ◌∙◌, sym, ap, Option, Some, None}
+use Rattle.std.proofs.Common.{◌≡◌, ℕ, subst, ◌∙◌, sym, ap, Option, Some}
 use Rattle.table_run.specs.declared.answers.Form.{Form}
 use Rattle.table_run.specs.declared.answers.Form.TheVariants.{Soak}
 use Rattle.table_run.specs.Top.{EachLineFits}
