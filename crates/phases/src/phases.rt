@@ -32,7 +32,7 @@ pub struct PhaseOut {
     pub image: Image,
     /// The replies of each mutator to its calls, in order.
     pub replies: Items<Items<Reply>>,
-    /// The objects that are then shaded and not scanned, each once, ascending.
+    /// The objects that are then shaded and not scanned, each once.
     pub shaded: Vec<u32>,
     /// How many objects were scanned in the phase.
     pub scans: u32,
