@@ -1,0 +1,91 @@
+// Runs of scripts from text: the report by the top call, and by the run of a script with a gate.
+use ept_io::{MemorySink, MemorySource};
+use phase_calls::{Gate, Open};
+use phase_run::run_script;
+use report_text::text;
+use script_reader::parse;
+use std::process::Abort;
+use std::test::Fail;
+use std::thread::Threads;
+use table_run::{Status, run_main};
+
+/// The room of a sink that takes every report of these tests, and the most bytes of a piece.
+const ROOM: usize = 8192;
+
+/// The parts in one text.
+pub(crate) fn joined<R: AllocGlobal>(rt: &R, parts: &[&str]) -> Result<String, Fail> {
+    let mut whole = String::new(rt.alloc());
+    for part in parts {
+        whole.push_str(part)?;
+    }
+    Ok(whole)
+}
+
+/// The report of a script by the top call.
+fn printed<R: AllocGlobal + Abort + Threads + Sync>(rt: &R, script: &str) -> Result<String, Fail> {
+    let alloc = rt.alloc();
+    let words = vec![in alloc; String::from_str(alloc, "run")?]?;
+    let bytes = Vec::from_slice(alloc, script.as_bytes())?;
+    let mut source = MemorySource::new(bytes, ROOM, Vec::new(alloc));
+    let mut sink = MemorySink::new(alloc, ROOM, ROOM, Vec::new(alloc))?;
+    let status = run_main(rt, alloc, words.as_slice(), &mut source, &mut sink);
+    assert_eq!(rt; status, Status::Ok);
+    Ok(String::from_str(alloc, str::from_utf8(sink.bytes())?)?)
+}
+
+/// The report of a script by its run with a gate.
+pub(crate) fn reported<R: AllocGlobal + Threads + Sync, G: Gate>(
+    rt: &R,
+    script: &str,
+    gate: &G,
+) -> Result<String, Fail> {
+    let script = parse(rt.alloc(), script.as_bytes())?;
+    let outcome = run_script(rt, rt.alloc(), &script, gate)?;
+    Ok(text(rt.alloc(), &outcome)?)
+}
+
+/// The report begins with `common`, and goes on with one of the endings.
+fn assert_one_of(rt: &impl Abort, report: &str, common: &str, endings: &[&str]) {
+    let is_one = match report.strip_prefix(common) {
+        Some(rest) => endings.contains(&rest),
+        None => false,
+    };
+    assert!(rt; is_one, "another report:\n{report}");
+}
+
+/// A script whose report, by both calls, begins with `common`, and goes on with one of the endings.
+pub(crate) fn gives_one_of<R: AllocGlobal + Abort + Threads + Sync>(
+    rt: &R,
+    script: &str,
+    common: &str,
+    endings: &[&str],
+) -> Result<(), Fail> {
+    let report = reported(rt, script, &Open)?;
+    assert_one_of(rt, report.as_str(), common, endings);
+    let report = printed(rt, script)?;
+    assert_one_of(rt, report.as_str(), common, endings);
+    Ok(())
+}
+
+/// A script that has this report by both calls.
+pub(crate) fn gives<R: AllocGlobal + Abort + Threads + Sync>(
+    rt: &R,
+    script: &str,
+    report: &str,
+) -> Result<(), Fail> {
+    gives_one_of(rt, script, report, &[""])
+}
+
+/// A script that has this report by both calls with each of these numbers of markers. Its header ends where the number stands.
+pub(crate) fn gives_with_markers<R: AllocGlobal + Abort + Threads + Sync>(
+    rt: &R,
+    header: &str,
+    lines: &str,
+    report: &str,
+) -> Result<(), Fail> {
+    for markers in ["0\n", "1\n", "2\n", "4\n"] {
+        let script = joined(rt, &[header, markers, lines])?;
+        gives(rt, script.as_str(), report)?;
+    }
+    Ok(())
+}
