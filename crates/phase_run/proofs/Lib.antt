@@ -5,3 +5,5 @@ pub mod Works
 pub mod PutCounts
 pub mod OldObjects
 pub mod WorkRuns
+pub mod ValidRuns
+pub mod ScriptRuns

@@ -43,9 +43,10 @@ pub fn run_script<R: Threads + Sync, G: Gate>(
     ensures answers { IfOk result (Answers script.now) }
 {
     let mut mutator = Mutator::fresh(alloc, shape_of(&script.limits))?;
+    let phases = script.phases.as_slice();
     let mut reports = Items::new(alloc);
     let mut puts = 0;
-    for phase in script.phases.as_slice() {
+    for phase in phases {
         let ran = run_and_meet(rt, alloc, &script.limits, phase, mutator, gate)?;
         mutator = ran.mutator;
         puts += ran.puts;

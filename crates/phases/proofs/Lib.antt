@@ -6,3 +6,9 @@ pub mod Played
 pub mod Whole
 pub mod Scanned
 pub mod Closed
+pub mod Cuts
+pub mod Joins
+pub mod Pushes
+pub mod Ready
+pub mod Chosen
+pub mod Marked

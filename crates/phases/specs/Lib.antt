@@ -1,5 +1,5 @@
-pub mod Phases
-pub mod Sessions
 pub mod Cuts
 pub mod Markings
+pub mod Phases
+pub mod Sessions
 pub mod Workers

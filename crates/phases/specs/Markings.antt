@@ -1,5 +1,5 @@
 -- What the markers of a phase are given, what each has done, and what they leave.
-use Rattle.std.specs.Prelude.{◌≡◌, ℕ, ◌+◌, ◌<◌, ◌≤◌, true, All, List, [], ◌∷◌, length}
+use Rattle.std.specs.Prelude.{◌≡◌, ℕ, ◌<◌, ◌≤◌, true, All, List, [], ◌∷◌, length}
 use Rattle.entry_base.specs.declared.chunks.Chunk.{Chunk}
 use Rattle.entry_base.specs.declared.table.Shared.{Shared}
 use Rattle.entry_base.specs.declared.view.View.{View}

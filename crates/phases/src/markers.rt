@@ -1,5 +1,5 @@
 // The markers of a phase: they are made with the chunks to scan, run on threads, and taken in again.
-ghost use Rattle.std.specs.Prelude.{◌≡◌, ◌≤◌, ◌+◌, ◌<◌, ℕ, All, IfOk, List, length, map, slice_index_or};
+ghost use Rattle.std.specs.Prelude.{◌≡◌, ◌≤◌, ◌+◌, ◌*◌, ◌<◌, ℕ, All, IfOk, List, length, map, slice_index_or};
 ghost use Rattle.entry_base.specs.declared.chunks.Chunk.{Chunk};
 ghost use Rattle.entry_base.specs.Lists.{AreIn, total};
 ghost use Rattle.entry_base.specs.Numbers.{HasNumber};
@@ -183,6 +183,7 @@ fn join_before(
     ensures took { TookIn (view first.old) (map (λ (m : Marking). view m.session) markings.items) (view first.new) }
     ensures joined { claims_of thief.new ≡ all_joined (claims_of thief.old) (map (λ (m : Marking). claims_of m.thief) markings.items) }
     ensures scans { result ≡ total (λ (m : Marking). m.dealt.scans) markings.items }
+    ensures few { result ≤ 16384 * length markings.items }
 {
     let mut scans = 0;
     for marking in markings {
