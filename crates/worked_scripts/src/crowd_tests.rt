@@ -1,5 +1,5 @@
 // Eight mutators on one table, alone and concurrently with markers.
-use crate::runs::{gives_with_markers};
+use crate::runs::gives_with_markers;
 use std::test::Fail;
 
 pub(crate) const EIGHT_MUTATORS: &str = "ept 1 seg=4 ext=3 tru=1 objects=9 mutators=8 markers=";

@@ -1,6 +1,6 @@
 // Threads that wait for one another in a phase: a run of one after the other would not end by their flags.
 use crate::gates::{Meeting, Place};
-use crate::runs::{reported};
+use crate::runs::reported;
 use std::test::Fail;
 
 const TWO_CALLS_EACH: &str = "ept 1 seg=4 ext=1 tru=1 objects=2 mutators=2 markers=0

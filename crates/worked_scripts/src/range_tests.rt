@@ -1,10 +1,13 @@
 // Version 2 with several mutators: accesses by ranges, and the reports of the other scripts, whose asks become ranges.
 use crate::crowd_tests::{EIGHT_MUTATORS, RING, RING_REPORT};
 use crate::cycle_tests::{
-    COMPACTION, COMPACTION_REPORT, FIRST_MAKES_FIRST, INITS_IN_THE_AREA, INITS_IN_THE_AREA_START, ONE_MUTATOR, SECOND_MAKES_FIRST, THREE_PHASES, THREE_PHASES_REPORT, TWO_MUTATORS,
+    COMPACTION, COMPACTION_REPORT, FIRST_MAKES_FIRST, INITS_IN_THE_AREA, INITS_IN_THE_AREA_START,
+    ONE_MUTATOR, SECOND_MAKES_FIRST, THREE_PHASES, THREE_PHASES_REPORT, TWO_MUTATORS,
 };
 use crate::race_tests::{
-    EMPTIED, EMPTIED_START, EMPTY_AND_FREED, EMPTY_AND_KEPT, FETCHED, FIRST_AT_ONE, FIRST_AT_TWO, IN_ORDER, IN_TURNED_ORDER, SECOND_AT_ONE, SECOND_AT_TWO, TWO_EXCHANGES, TWO_EXCHANGES_START, TWO_INITS, TWO_INITS_START,
+    EMPTIED, EMPTIED_START, EMPTY_AND_FREED, EMPTY_AND_KEPT, FETCHED, FIRST_AT_ONE, FIRST_AT_TWO,
+    IN_ORDER, IN_TURNED_ORDER, SECOND_AT_ONE, SECOND_AT_TWO, TWO_EXCHANGES, TWO_EXCHANGES_START,
+    TWO_INITS, TWO_INITS_START,
 };
 use crate::runs::{gives, gives_one_of, joined};
 use crate::sharing_tests::{EXCHANGE, EXCHANGE_REPORT, TICKETS, TICKETS_REPORT};
@@ -92,8 +95,14 @@ fn with_ranges<R: AllocGlobal>(rt: &R, script: &str) -> Result<String, Fail> {
     let newer = script.replace(rt.alloc(), "ept 1", "ept 2")?;
     let first = newer.as_str().replace(rt.alloc(), " 0f\n", " 0e-10\n")?;
     let second = first.as_str().replace(rt.alloc(), " 17\n", " 11-ff\n")?;
-    let exchanged = second.as_str().replace(rt.alloc(), "swap a 0 0f", "swap a 0 0e-10")?;
-    Ok(exchanged.as_str().replace(rt.alloc(), "store c 0 0f", "store c 0 01-0f")?)
+    let exchanged = second
+        .as_str()
+        .replace(rt.alloc(), "swap a 0 0f", "swap a 0 0e-10")?;
+    Ok(
+        exchanged
+            .as_str()
+            .replace(rt.alloc(), "store c 0 0f", "store c 0 01-0f")?,
+    )
 }
 
 #[test]
@@ -106,7 +115,11 @@ fn the_reports_of_two_mutators_are_the_same_by_ranges(rt: HostRuntime) -> Result
             EMPTIED_START,
             &[FETCHED, EMPTY_AND_KEPT, EMPTY_AND_FREED],
         ),
-        (TWO_EXCHANGES, TWO_EXCHANGES_START, &[IN_ORDER, IN_TURNED_ORDER]),
+        (
+            TWO_EXCHANGES,
+            TWO_EXCHANGES_START,
+            &[IN_ORDER, IN_TURNED_ORDER],
+        ),
         (
             TWO_INITS,
             TWO_INITS_START,

@@ -1,5 +1,5 @@
 // What one mutator leaves before a meet, and another one finds after it.
-use crate::runs::{gives};
+use crate::runs::gives;
 use std::test::Fail;
 
 /// Mutator 1 exchanges the value of a cell that mutator 0 made.
