@@ -1,6 +1,6 @@
 -- The objects that are shaded and not scanned, each listed once: by the list, and by how often an object stands in it, which is once
 -- just where its header says so.
-use Rattle.std.proofs.Common.{◌≡◌, ◌≢◌, ◌⊎◌, ℕ, zero, suc, ◌+◌, ◌/◌, ◌%◌, ◌<◌, ◌≤◌, ◌==◌, nat_lt, Bool, true, false, List, [], ◌∷◌, length, slice_index, Option, Some, None, if◌then◌else◌, refl, sym, ap, subst, ◌∙◌, inl, inr, arith}
+use Rattle.std.proofs.Common.{◌≡◌, ◌≢◌, ◌⊎◌, ℕ, zero, suc, ◌+◌, ◌%◌, ◌<◌, ◌≤◌, ◌==◌, nat_lt, Bool, true, false, List, [], ◌∷◌, length, slice_index, Option, Some, None, if◌then◌else◌, refl, sym, ap, subst, ◌∙◌, inl, inr, arith}
 use Rattle.std.specs.Prelude.{◌||◌, nat_le}
 use Rattle.std.specs.List.{Contains}
 use Rattle.std.proofs.lemmas.Bool.{cases_lt}
@@ -9,12 +9,12 @@ use Rattle.std.proofs.lemmas.List.Elements.{at_from_Contains, Contains-get_or}
 use Rattle.plain_table.specs.Cycle.{Cycle}
 use Rattle.plain_table.specs.Table.{Sizes, Table}
 use Rattle.plain_table.specs.Words.{phase_word}
-use Rattle.plain_table.specs.Shows.{IsHeader, IsLawful, IsScanned, IsShaded, Shows, is_black}
+use Rattle.plain_table.specs.Shows.{IsHeader, IsLawful, IsScanned, IsShaded, Shows}
 use Rattle.plain_table.specs.Sound.{IsSound}
 use Rattle.entry_base.specs.Hands.{grey}
 use Rattle.entry_base.specs.Lists.{Has, count_in}
 use Rattle.entry_base.proofs.Sums.{count_self, has_count}
-use Rattle.entry_word.specs.Image.{IsValidShape, image_of, sizes_of}
+use Rattle.entry_word.specs.Image.{IsValidShape, image_of}
 use Rattle.entry_word.specs.declared.image.Image.{Image}
 use Rattle.phase_calls.proofs.LinkedObjects.{Contains-has, Has-contains}
 use Rattle.sweeper.specs.Late.{AreOwed}

@@ -1,15 +1,12 @@
 -- The first phase of a cycle: markers scan each root, and where nothing is linked to a reference, each object that is reachable at its
 -- start. And with its meet the phase is a part of the history.
-use Rattle.std.proofs.Common.{◌≡◌, ◌≢◌, ◌⊎◌, ℕ, zero, suc, ◌+◌, ◌/◌, ◌%◌, ◌<◌, ◌≤◌, ◌==◌, Bool, true, false, List, [], ◌∷◌, length, slice_index, Option, Some, None, IsTrue, if◌then◌else◌, refl, sym, ap, subst, ◌∙◌, inl, inr, arith, eq-eqb}
-use Rattle.std.specs.Prelude.{slice_index_or, IfSome, nat_le}
+use Rattle.std.proofs.Common.{◌≡◌, ◌⊎◌, ℕ, suc, ◌/◌, ◌%◌, ◌<◌, ◌≤◌, ◌==◌, Bool, true, false, List, [], ◌∷◌, Option, Some, IsTrue, if◌then◌else◌, refl, sym, ap, subst, ◌∙◌, inl, inr, arith, eq-eqb}
+use Rattle.std.specs.Prelude.{slice_index_or}
 use Rattle.std.specs.List.{All, Contains}
-use Rattle.std.proofs.lemmas.Bool.{cases_lt}
-use Rattle.std.proofs.lemmas.Bool.Decides.{nat_tests}
 use Rattle.std.proofs.lemmas.List.Elements.{All-head, All-tail}
 use Rattle.plain_table.specs.declared.scripts.Limits.{Limits}
 use Rattle.plain_table.specs.declared.scripts.Op.{Op}
 use Rattle.plain_table.specs.declared.scripts.Policy.{Policy}
-use Rattle.plain_table.specs.declared.events.Act.TheVariants.{Scan}
 use Rattle.plain_table.specs.declared.events.Event.{Event}
 use Rattle.plain_table.specs.Belongs.{IsMarker, IsScannedIn, LinkNoReference, events_by}
 use Rattle.plain_table.specs.Reachable.{By_global, By_reference, By_variable, IsRoot, Reaches}
@@ -17,9 +14,8 @@ use Rattle.plain_table.specs.Cycle.{Cycle, IsOld}
 use Rattle.plain_table.specs.Finish.{IsReachable, started}
 use Rattle.plain_table.specs.Table.{Sizes, Table}
 use Rattle.plain_table.specs.Sound.{IsSound}
-use Rattle.plain_table.specs.Shows.{IsCoveredIn, IsScanned, IsShaded, is_black}
+use Rattle.plain_table.specs.Shows.{IsCoveredIn, IsShaded}
 use Rattle.plain_table.specs.Shapes.{with_ticket}
-use Rattle.plain_table.specs.Sweeps.{linked_after}
 use Rattle.plain_table.specs.History.{after}
 use Rattle.plain_table.proofs.CycleParts.{CycleSound-is}
 use Rattle.plain_table.proofs.Options.{IfSome-is}
@@ -187,6 +183,6 @@ module _ (limits : Limits) (old : Mutator) (calls : List (List Op)) (ready : IsR
     pub old-scanned : (o : ℕ) → IsReachable s o → IsScannedIn limits ran.history o
     old-scanned o reach =
         (Reaches-fold (λ m. IsScannedIn limits ran.history m × IsReachable s m) o reach
-            (λ g q e. (roots-scanned some q (inl (g, e)), By_global g q e))
-            (λ b v q e. (roots-scanned some q (inr (b, v, e)), By_variable b v q e))
-            (λ m k q has e. let far = By_reference m k q has.1 e in (next-scanned m k q has.0 e far, far))).0
+        (λ g q e. (roots-scanned some q (inl (g, e)), By_global g q e))
+        (λ b v q e. (roots-scanned some q (inr (b, v, e)), By_variable b v q e))
+        (λ m k q has e. let far = By_reference m k q has.1 e in (next-scanned m k q has.0 e far, far))).0

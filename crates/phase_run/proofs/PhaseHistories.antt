@@ -1,21 +1,18 @@
 -- What a legal history of a phase leaves: the cycle's start, scans and births stay, each new scan is one of its events, and what it
 -- links to references is made.
-use Rattle.std.proofs.Common.{◌≡◌, ◌≢◌, ◌⊎◌, ℕ, zero, suc, ◌+◌, ◌<◌, ◌≤◌, ◌==◌, nat_lt, Bool, true, false, List, [], ◌∷◌, ◌++◌, length, Option, Some, None, option_map, IsTrue, refl, sym, ap, subst, ◌∙◌, inl, inr, arith, append_assoc}
+use Rattle.std.proofs.Common.{◌≡◌, ◌⊎◌, ℕ, zero, suc, ◌<◌, ◌==◌, nat_lt, Bool, true, false, List, [], ◌∷◌, ◌++◌, Option, Some, None, option_map, IsTrue, refl, sym, ap, subst, ◌∙◌, inl, inr, arith, append_assoc}
 use Rattle.std.specs.Prelude.{IsSomeAnd}
-use Rattle.std.specs.List.{All, Any, Contains}
+use Rattle.std.specs.List.{Contains}
 use Rattle.std.specs.Option.{option_to_list}
 use Rattle.std.proofs.lemmas.Option.{same_Some}
 use Rattle.std.proofs.lemmas.List.Elements.{All-head, All-tail, Contains-append_cases}
 use Rattle.plain_table.specs.declared.events.Act.{Act}
 use Rattle.plain_table.specs.declared.events.Act.TheVariants.{New, Link, Take, Below, Abort, Put, Bind, Set, Swap, Forge, Publish, Mark, Evac, Scan, Start, Finish}
 use Rattle.plain_table.specs.declared.events.Event.{Event}
-use Rattle.plain_table.specs.declared.events.Space.TheVariants.{External, Trusted}
-use Rattle.plain_table.specs.declared.events.Field.TheVariants as field
+use Rattle.plain_table.specs.declared.events.Space.TheVariants.{External}
 use Rattle.plain_table.specs.declared.events.Spot.TheVariants.{Global, Ref}
 use Rattle.plain_table.specs.Belongs.{LinkNoReference}
 use Rattle.plain_table.specs.Cycle.{Cycle, with_entry, with_scan}
-use Rattle.plain_table.specs.Index.{index_of}
-use Rattle.plain_table.specs.Places.{put_at}
 use Rattle.plain_table.specs.Table.{Table, least_free}
 use Rattle.plain_table.specs.Rows.{free_below, object_in, row, with_bound, with_object, with_unbound}
 use Rattle.plain_table.specs.History.{IsLegalHistory, after, next}

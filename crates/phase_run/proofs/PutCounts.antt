@@ -1,5 +1,5 @@
 -- How many external cells a phase puts: those that the calls of its mutators put, by their replies; markers put none.
-use Rattle.std.proofs.Common.{◌≡◌, ◌≢◌, ◌⊎◌, ℕ, zero, suc, ◌+◌, ◌<◌, ◌≤◌, ◌==◌, Bool, true, false, List, [], ◌∷◌, length, if◌then◌else◌, refl, sym, ap, subst, ◌∙◌, inl, inr, arith, ne_eqb}
+use Rattle.std.proofs.Common.{◌≡◌, ◌≢◌, ◌⊎◌, ℕ, zero, suc, ◌+◌, ◌<◌, ◌≤◌, Bool, List, [], ◌∷◌, length, if◌then◌else◌, refl, sym, ap, subst, ◌∙◌, inl, inr, arith, ne_eqb}
 use Rattle.std.specs.Prelude.{slice_index_or}
 use Rattle.std.specs.List.{All, AllByRecursion}
 use Rattle.std.proofs.lemmas.Bool.{cases_lt}
@@ -87,6 +87,6 @@ module _ (limits : Limits) (calls : List (List Op)) (replies : List (List Reply)
   puts_of_all-phase =
       puts_of_all-sum calls replies (λ b. puts_in (events_by b es)) 12 (omega (arith, called, mutators)) (said ∙ sym called)
       (λ b less. MakesCalls-puts b s.cycle (s.vars b) (with_ticket (s.ticket b)) (slice_index_or calls b []) (slice_index_or replies b []) (events_by b es)
-          (Each-events_by BindsSay b es (BindsSay-legal s es legal)) (made b (omega (arith, less, called))))
+      (Each-events_by BindsSay b es (BindsSay-legal s es legal)) (made b (omega (arith, less, called))))
       (λ b past. others_put-none b (omega (arith, past, called)))
       ∙ sym (count_by-numbers (λ (e : Event). is_external_put e.act) 12 es (each_of _ (λ (e : Event). e.by < 12) es twelve numbers))

@@ -1,9 +1,8 @@
 -- What a run relies on within a valid script: each phase has a list of valid calls for each mutator, a cycle starts only outside one
 -- and is finished only in one, and there are few operations.
 use Rattle.std.proofs.Common.{◌≡◌, ℕ, zero, suc, ◌+◌, ◌<◌, ◌≤◌, Bool, true, false, Option, Some, List, [], ◌∷◌, ◌++◌, length, get_or, take, refl, sym, ◌∙◌, ap, subst, arith}
-use Rattle.std.specs.Prelude.{◌==◌, if◌then◌else◌}
+use Rattle.std.specs.Prelude.{if◌then◌else◌}
 use Rattle.std.specs.Option.{option_and_then}
-use Rattle.std.specs.List.{All}
 use Rattle.std.proofs.lemmas.List.{take_more}
 use Rattle.std.proofs.Math.Nat.{mul-le-mul_left, div-add-mod}
 use Rattle.plain_table.specs.declared.scripts.Limits.{Limits}
@@ -14,7 +13,7 @@ use Rattle.plain_table.specs.declared.scripts.Phase.{Phase}
 use Rattle.plain_table.specs.declared.scripts.Script.{Script}
 use Rattle.plain_table.specs.Ranges.{IsInRange}
 use Rattle.script_reader.specs.Lines.{most_operations}
-use Rattle.script_reader.specs.Valid.{IsValidLimits, IsValidOp, IsValidPhase, IsValidScript, lists_length, meet_after, meets_after, operations_of}
+use Rattle.script_reader.specs.Valid.{IsValidLimits, IsValidScript, lists_length, meet_after, meets_after, operations_of}
 use Rattle.script_reader.proofs.Upgrading.{op-upgraded}
 use Rattle.phases.specs.Phases.{CanRun}
 use Rattle.phase_run.specs.Meets.{IsMeetAt, word_after, words_after}
@@ -62,8 +61,7 @@ CanRun-valid script valid k d within =
     let phase = valid.each k d within in
     let most = phase-few script valid k d within in
     record {
-      mutators = valid.limits.mutators;
-      markers = valid.limits.markers;
+      range = range_of script.limits valid.limits;
       lists = phase.lists;
       valid = λ i e inside j o later. op-upgraded script.version (get_or (get_or (get_or script.phases k d).calls i e) j o) (phase.each i e inside j o later);
       few = λ i e inside. let one = list-few (get_or script.phases k d).calls i e inside in omega (arith, one, most);

@@ -1,18 +1,13 @@
 -- What a phase on threads leaves, for each table that the image showed: with its meet it is a part of the history.
-use Rattle.std.proofs.Common.{◌≡◌, ℕ, ◌<◌, List, [], length, IsTrue, refl, ap}
+use Rattle.std.proofs.Common.{◌≡◌, length}
 use Rattle.plain_table.specs.declared.scripts.Limits.{Limits}
-use Rattle.plain_table.specs.declared.scripts.Op.{Op}
 use Rattle.plain_table.specs.declared.scripts.Phase.{Phase}
-use Rattle.plain_table.specs.Table.{Table}
-use Rattle.entry_word.specs.declared.image.Shape.{Shape}
-use Rattle.entry_word.specs.Image.{image_of, sizes_of}
 use Rattle.entry_base.specs.Openings.{opening_of}
 use Rattle.mutator_calls.specs.declared.heap.Mutator.{Mutator}
-use Rattle.mutator_calls.specs.Calls.{HandsOver, IsReady, Sees, owed_of}
+use Rattle.mutator_calls.specs.Calls.{IsReady, owed_of}
 use Rattle.phases.specs.declared.phases.PhaseOut.{PhaseOut}
 use Rattle.phases.specs.Phases.{CanRun, Ran}
-use Rattle.phase_run.specs.Meets.{IsStarted}
-use Rattle.phase_run.specs.Run.{HasWorked, WorksEach}
+use Rattle.phase_run.specs.Run.{WorksEach}
 use Rattle.phase_run.proofs.OldObjects.{begun_cycle, old-scanned, roots-scanned}
 use Rattle.phase_run.proofs.PutCounts.{puts_of_all-phase}
 use Rattle.phase_run.proofs.Works.{HandsOver-worked, IsBase-seen, Sees-worked, legal-after}
@@ -24,20 +19,20 @@ WorksEach-ran limits old new phase ready can out ran same long many listed kept 
     let base = IsBase-seen old s sees in
     let legal = legal-after limits old phase.calls ready out ran s sees in
     record {
-  during = ran.history;
-  legal = legal;
-  belongs = λ met report belongs. record {
-    calls = ran.calls_made s base;
-    scans = ran.scans s base;
-    numbers = ran.numbers;
-    roots = λ begin some o root. let c = begun_cycle s (starts begin) in
-        roots-scanned limits old phase.calls ready out ran s linked sees handed c.0 c.1 some o root;
-    old = λ begin some none o reach. let c = begun_cycle s (starts begin) in
-        old-scanned limits old phase.calls ready out ran s linked sees handed c.0 c.1 can some none o reach;
-    lists = ran.lists;
-    meet = belongs;
-  };
-  puts = puts_of_all-phase limits phase.calls out.replies s ran.history can.mutators.1 can.markers can.lists ran.lists legal (ran.calls_made s base) (ran.scans s base) ran.numbers;
-  sees = Sees-worked limits old phase.calls ready out ran new same long many listed kept s sees;
-  handed = HandsOver-worked limits old phase.calls ready out ran new same long many listed kept s linked sees handed;
-}
+      during = ran.history;
+      legal = legal;
+      belongs = λ met report belongs. record {
+        calls = ran.calls_made s base;
+        scans = ran.scans s base;
+        numbers = ran.numbers;
+        roots = λ begin some o root. let c = begun_cycle s (starts begin) in
+            roots-scanned limits old phase.calls ready out ran s linked sees handed c.0 c.1 some o root;
+        old = λ begin some none o reach. let c = begun_cycle s (starts begin) in
+            old-scanned limits old phase.calls ready out ran s linked sees handed c.0 c.1 can some none o reach;
+        lists = ran.lists;
+        meet = belongs;
+      };
+      puts = puts_of_all-phase limits phase.calls out.replies s ran.history can.range.mutators.1 can.range.markers can.lists ran.lists legal (ran.calls_made s base) (ran.scans s base) ran.numbers;
+      sees = Sees-worked limits old phase.calls ready out ran new same long many listed kept s sees;
+      handed = HandsOver-worked limits old phase.calls ready out ran new same long many listed kept s linked sees handed;
+    }

@@ -1,5 +1,5 @@
 -- A mutator whose image was taken through a phase: it is ready again, and what a cycle has to hand over is handed over.
-use Rattle.std.proofs.Common.{◌≡◌, ◌⊎◌, ℕ, zero, suc, ◌+◌, ◌/◌, ◌%◌, ◌<◌, ◌≤◌, Bool, true, false, List, [], ◌∷◌, ◌++◌, length, slice_index, Option, Some, None, IsTrue, refl, sym, ap, subst, ◌∙◌, inl, inr, arith}
+use Rattle.std.proofs.Common.{◌≡◌, ◌⊎◌, ℕ, zero, suc, ◌/◌, ◌%◌, ◌<◌, ◌≤◌, Bool, true, false, List, [], ◌∷◌, ◌++◌, length, slice_index, Option, Some, None, IsTrue, refl, sym, ap, subst, ◌∙◌, inl, inr, arith}
 use Rattle.std.specs.Prelude.{◌||◌, nat_le, slice_index_or, IfSome, IsSomeAnd}
 use Rattle.std.specs.List.{Contains}
 use Rattle.std.proofs.lemmas.Bool.{cases_lt}
@@ -15,10 +15,8 @@ use Rattle.plain_table.specs.Cycle.{Cycle}
 use Rattle.plain_table.specs.Table.{Sizes, Table}
 use Rattle.plain_table.specs.Words.{phase_place, phase_word}
 use Rattle.plain_table.specs.History.{IsLegalHistory, after}
-use Rattle.plain_table.specs.Sound.{IsSound}
 use Rattle.plain_table.specs.Shows.{IsLawful, IsShaded, is_black}
 use Rattle.plain_table.specs.Sweeps.{linked_after}
-use Rattle.plain_table.proofs.Options.{IfSome-is}
 use Rattle.table_laws.specs.Steady.{CycleSteady, CyclesSteady}
 use Rattle.entry_word.specs.declared.image.Image.{Image}
 use Rattle.entry_word.specs.declared.image.Shape.{Shape}
@@ -32,10 +30,10 @@ use Rattle.sweeper.specs.Shading.{header_of}
 use Rattle.sweeper.proofs.HeaderReads.{header-black, header-scanned}
 use Rattle.mutator_calls.specs.declared.heap.Mutator.{Mutator}
 use Rattle.mutator_calls.specs.Calls.{AreHanded, HandsOver, IsReady, Sees, owed_of}
-use Rattle.mutator_calls.proofs.Kept.{AreDuringPhase, count-after, root-below, sizes-after}
+use Rattle.mutator_calls.proofs.Kept.{AreDuringPhase, count-after, root-below}
 use Rattle.phases.specs.declared.phases.PhaseOut.{PhaseOut}
 use Rattle.phases.specs.Phases.{Ran}
-use Rattle.phase_run.proofs.Listed.{AreOwed-few, AreOwed-from_counts, grey-one, grey-some, has-counted, header-any}
+use Rattle.phase_run.proofs.Listed.{AreOwed-few, AreOwed-from_counts, grey-some, has-counted, header-any}
 use Rattle.phase_run.proofs.PhaseHistories.{AreDuringPhase-each, CyclesSteady-after, HasScan, linked_after-made, linked_after-more, scans_at, scans_at-after}
 
 -- a table that an image shows, as the contracts of phases say it

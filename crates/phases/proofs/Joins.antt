@@ -1,5 +1,5 @@
 -- Markers that are taken in one after another, and what their thieves took together.
-use Rattle.std.proofs.Common.{◌≡◌, ℕ, zero, suc, ◌+◌, ◌<◌, ◌≤◌, ◌||◌, All, Bool, true, false, List, [], ◌∷◌, ◌++◌, length, map, Some, refl, sym, ap, subst, ◌∙◌, arith}
+use Rattle.std.proofs.Common.{◌≡◌, ℕ, suc, ◌+◌, ◌||◌, All, Bool, true, false, List, [], ◌∷◌, ◌++◌, length, map, Some, refl, sym, ap, subst, ◌∙◌, arith}
 use Rattle.std.proofs.lemmas.List.{length-append}
 use Rattle.std.proofs.lemmas.List.Elements.{All-pop}
 use Rattle.entry_base.specs.declared.chunks.Chunk.{Chunk}
@@ -62,7 +62,7 @@ pub joined_once : (chunks : List Chunk) (ms : List Marking) (last : Marking) (w 
     → (IsWhole w → TookEachOnce w) → HaveEnded chunks (ms ++ last ∷ []) → EachOnce chunks (ms ++ last ∷ [])
 joined_once chunks ms last w is whole ended k low =
     let took = (whole record { all = all; ended = ap (λ (v : Claims). v.ended) is ∙ joined_ended (claims_of last.thief) others own.end }).each k
-        (let same = ap (λ (v : Claims). length v.given) is in let first = ap length (joined_given (claims_of last.thief) others) in let given = ap length own.given in omega (arith, same, first, given, low)) in
+    (let same = ap (λ (v : Claims). length v.given) is in let first = ap length (joined_given (claims_of last.thief) others) in let given = ap length own.given in omega (arith, same, first, given, low)) in
     let sum = ap (λ (v : Claims). count_in k v.taken) is in
     let parts = joined_taken k (claims_of last.thief) ms in
     let together = total_append (λ (m : Marking). count_in k (claims_of m.thief).taken) ms (last ∷ []) in

@@ -220,8 +220,8 @@ module _ (key : Opening) (v : View) (opened : v.opening ≡ key) (none_seen : v.
   marked_sum : (d : View) → scans ≡ sum_below (λ i. count_by (λ (e : Event). is_scan e.act) (events_by (8 + i) (get_or views i d).seen)) count
   marked_sum d = counted ∙ (total-sum_below (λ (m : Marking). m.dealt.scans) later (λ i. count_by (λ (e : Event). is_scan e.act) (events_by (8 + i) (get_or views i d).seen))
       (λ i x low. let within : i < count = (let l = many in omega (arith, low, l)) in
-          ap (λ (y : View). count_by (λ (e : Event). is_scan e.act) (events_by (8 + i) y.seen)) (get_or-map (λ (m : Marking). view m.session) later i x d low)
-          ∙ marked_counted key v opened none_seen (8 + i) t pool (get_or before i x) (get_or later i x) (given i x within) (ran i x (in_before i within)))
+      ap (λ (y : View). count_by (λ (e : Event). is_scan e.act) (events_by (8 + i) y.seen)) (get_or-map (λ (m : Marking). view m.session) later i x d low)
+      ∙ marked_counted key v opened none_seen (8 + i) t pool (get_or before i x) (get_or later i x) (given i x within) (ran i x (in_before i within)))
       ∙ ap (sum_below (λ i. count_by (λ (e : Event). is_scan e.act) (events_by (8 + i) (get_or views i d).seen))) many)
 
   pub MarkersWorked-marked : MarkersWorked key count owed views scans
@@ -247,13 +247,13 @@ module _ (t : Shared) (pool : Pool) where
     caller = ran.caller;
     thief = ran.thief;
     few =
-      let s = ran.steals.steals in
-      let most = length_few (sizes_in (view before.session).opening).objects s.done s.low s.once in
-      let is = s.scans in
-      let key = ap (λ k. (sizes_in k).objects) caller.1.opened in
-      let made = t.made.1 in
-      let few = t.few in
-      omega (arith, most, is, key, made, few);
+        let s = ran.steals.steals in
+        let most = length_few (sizes_in (view before.session).opening).objects s.done s.low s.once in
+        let is = s.scans in
+        let key = ap (λ k. (sizes_in k).objects) caller.1.opened in
+        let made = t.made.1 in
+        let few = t.few in
+        omega (arith, most, is, key, made, few);
   }
 
   pub HasEnded-all : (before later : List Marking) → All (MayMark t pool) before → length later ≡ length before

@@ -4,7 +4,7 @@ use Rattle.std.proofs.lemmas.List.{get_or-map, length-map}
 use Rattle.entry_base.specs.declared.chunks.Chunk.{Chunk}
 use Rattle.entry_base.specs.declared.table.Shared.{Shared}
 use Rattle.entry_base.specs.Openings.{sizes_in}
-use Rattle.entry_base.specs.Sessions.{view, IsChunkOf, IsOf}
+use Rattle.entry_base.specs.Sessions.{IsChunkOf, IsOf}
 use Rattle.chunk_pool.specs.declared.pool.Pool.{Pool}
 use Rattle.chunk_pool.specs.declared.pool.Thief.{Thief}
 use Rattle.chunk_pool.specs.Claims.{fresh_claims}

@@ -1,3 +1,1 @@
-pub mod CanRun
-pub mod Run
 pub mod Top

@@ -1,6 +1,6 @@
 -- What the top call answers and writes: the words that it knows, the exit status of each answer, and the text of
 -- an answer to the bytes of a script.
-use Rattle.std.specs.Prelude.{◌≡◌, ℕ, ◌<◌, ◌≤◌, if◌then◌else◌, false, List, [], ◌∷◌, length, take, codes, Option, Some, None, Ok, Err, IsTrue}
+use Rattle.std.specs.Prelude.{◌≡◌, ℕ, ◌<◌, ◌≤◌, if◌then◌else◌, List, [], ◌∷◌, length, take, codes, Option, Some, None, Ok, Err}
 use Rattle.std.specs.Str.{bytes_eq}
 use Rattle.plain_table.specs.declared.scripts.Script.{Script}
 use Rattle.plain_table.specs.declared.reports.Outcome.{Outcome}
@@ -10,7 +10,6 @@ use Rattle.script_reader.specs.Grammar.{script_of}
 use Rattle.script_reader.specs.Canonical.{canonical_of}
 use Rattle.script_reader.specs.Law.{upgraded}
 use Rattle.report_text.specs.Report.{report_of, fault_text_of}
-use Rattle.table_run.specs.CanRun.{can_run}
 use Rattle.table_run.specs.declared.answers.Form.{Form}
 use Rattle.table_run.specs.declared.answers.Form.TheVariants.{Run, Check, Upgrade}
 use Rattle.table_run.specs.declared.answers.Status.{Status}
@@ -38,11 +37,9 @@ code_of status.ReadFault = 4
 code_of status.WriteFault = 5
 code_of status.OutOfMemory = 6
 code_of status.TooLong = 7
-code_of status.CannotRun = 8
 
--- the text is the report of an outcome that belongs to the script, which can be run, by some history
+-- the text is the report of an outcome that belongs to the script by some history
 pub record IsReportOf (script : Script) (text : List ℕ) : Type 0 where
-  pub runs : IsTrue (can_run script)
   pub history : List Part
   pub outcome : Outcome
   pub belongs : Belongs script history outcome
@@ -54,12 +51,6 @@ IsAskedText Run script text = IsReportOf script text
 IsAskedText Check script text = text ≡ canonical_of script
 IsAskedText Upgrade script text = text ≡ canonical_of (upgraded script)
 
--- the answer to a valid script, where nothing fails
-abbrev pub answer_of : Form → Script → Status
-answer_of Run script = if can_run script then status.Ok else status.CannotRun
-answer_of Check script = status.Ok
-answer_of Upgrade script = status.Ok
-
 -- the text that an answer to the bytes of a script stands for; the other answers have none
 abbrev pub IsTextOf : Form → List ℕ → Status → List ℕ → Type 0
 IsTextOf form bytes status.Ok text = (script : Script) × (script_of bytes ≡ Ok script) × IsAskedText form script text
@@ -69,14 +60,6 @@ IsTextOf form bytes _ text = ⊥
 -- the text of each answer to the bytes has at most so many bytes
 abbrev pub EachTextFits : Form → List ℕ → ℕ → Type 0
 EachTextFits form bytes room = (answer : Status) (text : List ℕ) → IsTextOf form bytes answer text → length text ≤ room
-
--- the bytes are to be run, and spell a valid script of several mutators or of markers
-pub record IsUnrunnable (form : Form) (bytes : List ℕ) (answer : Status) : Type 0 where
-  pub answer_is : answer ≡ status.CannotRun
-  pub runs : form ≡ Run
-  pub script : Script
-  pub read : script_of bytes ≡ Ok script
-  pub refused : can_run script ≡ false
 
 -- the whole text of this answer was written after what was written before
 abbrev pub WroteAll : Form → List ℕ → Status → Option (List ℕ) → Option (List ℕ) → Type 0
@@ -94,5 +77,4 @@ IsSilent status.Usage = Unit {0}
 IsSilent status.ReadFault = Unit {0}
 IsSilent status.OutOfMemory = Unit {0}
 IsSilent status.TooLong = Unit {0}
-IsSilent status.CannotRun = Unit {0}
 IsSilent _ = ⊥

@@ -32,12 +32,10 @@ pub enum Status {
     OutOfMemory,
     /// The script has more than 4,194,304 bytes.
     TooLong,
-    /// The script is valid, and has several mutators or a marker: it can't be run.
-    CannotRun,
 }
 
 impl Status {
-    /// The exit status of the program: 0, 2, 3, 4, 5, 6, 7 or 8, in the order of the variants.
+    /// The exit status of the program: 0, 2, 3, 4, 5, 6 or 7, in the order of the variants.
     pub fn code(&self) -> u8
         ensures { result ≡ code_of self.now }
     {
@@ -49,7 +47,6 @@ impl Status {
             Status::WriteFault => 5,
             Status::OutOfMemory => 6,
             Status::TooLong => 7,
-            Status::CannotRun => 8,
         }
     }
 }

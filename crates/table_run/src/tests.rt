@@ -370,17 +370,19 @@ fn check_prints_the_canonical_script(rt: HostRuntime) -> Result<(), Fail> {
 }
 
 #[test]
-fn a_script_of_several_mutators_or_of_a_marker_is_checked_and_not_run(
+fn a_script_of_several_mutators_and_of_a_marker_is_checked_and_run(
     rt: HostRuntime,
 ) -> Result<(), Fail> {
-    for script in [
-        "ept 1 seg=4 ext=1 tru=1 objects=1 mutators=2 markers=0\nm0 new a\nend\n",
-        "ept 1 seg=4 ext=1 tru=1 objects=1 mutators=1 markers=1\nm0 new a\nend\n",
-    ] {
-        check(&rt, plain(&["check"]), &[script], Status::Ok, script)?;
-        check(&rt, plain(&["run"]), &[script], Status::CannotRun, "")?;
-    }
-    Ok(())
+    let script =
+        "ept 1 seg=4 ext=1 tru=1 objects=2 mutators=2 markers=1\nm0 new a\nstart never\nm1 load a 0 0f\nfinish\nend\n";
+    check(&rt, plain(&["check"]), &[script], Status::Ok, script)?;
+    check(
+        &rt,
+        plain(&["run"]),
+        &[script],
+        Status::Ok,
+        "m0 obj 0\nstart area=none\nm1 empty\nfinish kept=0 freed=0 moved=0 segs=1 trusted=0 tfreed=0 compaction=none\nend live=0 trusted=0 objects=1\n",
+    )
 }
 
 #[test]
@@ -417,7 +419,6 @@ fn each_status_has_its_code(rt: HostRuntime) {
         (Status::WriteFault, 5),
         (Status::OutOfMemory, 6),
         (Status::TooLong, 7),
-        (Status::CannotRun, 8),
     ] {
         assert_eq!(rt; status.code(), code);
     }

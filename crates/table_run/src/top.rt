@@ -8,16 +8,15 @@ ghost use Rattle.script_reader.specs.Canonical.{canonical_of};
 ghost use Rattle.script_reader.specs.Grammar.{script_of};
 ghost use Rattle.script_reader.specs.Valid.{IsValidScript};
 ghost use Rattle.table_run.specs.declared.answers.Form.{Form};
-ghost use Rattle.table_run.specs.CanRun.{can_run};
-ghost use Rattle.table_run.specs.Top.{EachTextFits, IsAskedText, IsReportOf, IsSilent, IsTextOf, IsUnrunnable, WroteAll, WrotePart, answer_of, form_of, form_of_word, most_bytes};
+ghost use Rattle.table_run.specs.Top.{EachTextFits, IsAskedText, IsReportOf, IsSilent, IsTextOf, WroteAll, WrotePart, form_of, form_of_word, most_bytes};
 
 use crate::answers::{Form, Status};
-use crate::run::{can_run, run};
 use ept_io::{ReadErr, Sink, Source, read_script, write_all};
+use phase_run::{Open, run_script};
 use plain_table::Script;
 use report_text::{fault_text, text};
 use script_reader::{OutOfMemory, ScriptErr, parse, print, upgrade};
-use std::alloc::{AllocError, Global};
+use std::alloc::Global;
 use std::thread::Threads;
 
 /// The most bytes of a script.
@@ -27,7 +26,7 @@ const MOST_BYTES: usize = 4_194_304;
 /// script from `src` to its end, and writes to `out` the report of its run, its canonical text, that of the script in
 /// version 2, or the text of its refusal. Takes no memory once it writes.
 pub fn run_main<R: Threads + Sync, S: Source, K: Sink>(
-    _rt: &R,
+    rt: &R,
     alloc: Global,
     args: &[String],
     src: &mut S,
@@ -64,11 +63,6 @@ pub fn run_main<R: Threads + Sync, S: Source, K: Sink>(
         IfSome (S.left src.old) (λ bytes. WrotePart form bytes (K.written out.old) (K.written out.new)) }
     ensures silent { IsSilent result → K.written out.new ≡ K.written out.old }
 
-    // A valid script of several mutators or of markers.
-    ensures cannot_run { (form : Form) → form_of (map string_bytes args.now) ≡ Some form → result ≡ Status.CannotRun →
-        IfSome (S.left src.old) (λ bytes. IsUnrunnable form bytes Status.CannotRun) }
-    ensures cannot_run_end { result ≡ Status.CannotRun → IsAtEnd (S.left src.new) }
-
     // A steady source, and a sink with room for each text that the script's bytes may have, have no fault.
     ensures steady { S.is_steady src.old → (result ≢ Status.ReadFault) × (S.faults src.new ≡ S.faults src.old) }
     ensures room { (form : Form) → form_of (map string_bytes args.now) ≡ Some form →
@@ -80,7 +74,7 @@ pub fn run_main<R: Threads + Sync, S: Source, K: Sink>(
         ¬ Rose (S.faults src.old) (S.faults src.new) → ¬ Rose (K.faults out.old) (K.faults out.new) →
         IfSome (S.left src.old) (λ bytes. length bytes ≤ most_bytes →
         (script : Script) → script_of bytes ≡ Ok script →
-        (result ≡ answer_of form script) ⊎ (result ≡ Status.OutOfMemory)) }
+        (result ≡ Status.Ok) ⊎ (result ≡ Status.OutOfMemory)) }
     ensures refuses { form_of (map string_bytes args.now) ≢ None →
         ¬ Rose (S.faults src.old) (S.faults src.new) → ¬ Rose (K.faults out.old) (K.faults out.new) →
         IfSome (S.left src.old) (λ bytes. length bytes ≤ most_bytes →
@@ -95,7 +89,7 @@ pub fn run_main<R: Threads + Sync, S: Source, K: Sink>(
         Err(ReadErr::TooLong) => return Status::TooLong,
         Err(ReadErr::OutOfMemory) => return Status::OutOfMemory,
     };
-    let answer = match answer_to(alloc, form, &bytes) {
+    let answer = match answer_to(rt, alloc, form, &bytes) {
         Ok(answer) => answer,
         Err(status) => return status,
     };
@@ -137,15 +131,20 @@ struct Answer {
 }
 
 /// Reads the script of these bytes, and does what the form asks for. The statuses that have no text are errors.
-fn answer_to(alloc: Global, form: Form, bytes: &[u8]) -> Result<Answer, Status>
+fn answer_to<R: Threads + Sync>(
+    rt: &R,
+    alloc: Global,
+    form: Form,
+    bytes: &[u8],
+) -> Result<Answer, Status>
     ensures text { IfOk result (λ answer. IsTextOf form bytes.now answer.status (string_bytes answer.text)) }
     ensures named { IfOk result (λ answer. answer.status ≢ Status.Refused ScriptErr.OutOfMemory) }
-    ensures silent { IfErr result (λ status. (status ≡ Status.OutOfMemory) ⊎ IsUnrunnable form bytes.now status) }
+    ensures silent { IfErr result (λ status. status ≡ Status.OutOfMemory) }
 {
     match parse(alloc, bytes) {
         Ok(script) => Ok(Answer {
             status: Status::Ok,
-            text: asked_text(alloc, form, script)?,
+            text: asked_text(rt, alloc, form, script)?,
         }),
         Err(ScriptErr::OutOfMemory) => Err(Status::OutOfMemory),
         Err(refusal) => match fault_text(alloc, &refusal) {
@@ -159,14 +158,18 @@ fn answer_to(alloc: Global, form: Form, bytes: &[u8]) -> Result<Answer, Status>
 }
 
 /// The text that the form asks for.
-fn asked_text(alloc: Global, form: Form, script: Script) -> Result<String, Status>
+fn asked_text<R: Threads + Sync>(
+    rt: &R,
+    alloc: Global,
+    form: Form,
+    script: Script,
+) -> Result<String, Status>
     requires { IsValidScript script }
     ensures text { IfOk result (λ text. IsAskedText form script (string_bytes text)) }
-    ensures silent { IfErr result (λ status. (status ≡ Status.OutOfMemory)
-        ⊎ ((status ≡ Status.CannotRun) × (form ≡ Form.Run) × (can_run script ≡ false))) }
+    ensures silent { IfErr result (λ status. status ≡ Status.OutOfMemory) }
 {
     match form {
-        Form::Run => report_of_run(alloc, &script),
+        Form::Run => report_of_run(rt, alloc, &script),
         Form::Check => printed(alloc, &script),
         Form::Upgrade => printed(alloc, &upgrade(script)),
     }
@@ -184,21 +187,21 @@ fn printed(alloc: Global, script: &Script) -> Result<String, Status>
     }
 }
 
-/// The report of a run of the script, if it can be run.
-fn report_of_run(alloc: Global, script: &Script) -> Result<String, Status>
+/// The report of a run of the script.
+fn report_of_run<R: Threads + Sync>(
+    rt: &R,
+    alloc: Global,
+    script: &Script,
+) -> Result<String, Status>
     requires { IsValidScript script.now }
     ensures text { IfOk result (λ text. IsReportOf script.now (string_bytes text)) }
-    ensures silent { IfErr result (λ status. (status ≡ Status.OutOfMemory)
-        ⊎ ((status ≡ Status.CannotRun) × (can_run script.now ≡ false))) }
+    ensures silent { IfErr result (λ status. status ≡ Status.OutOfMemory) }
 {
-    if !can_run(script) {
-        return Err(Status::CannotRun);
-    }
-    match run(alloc, script) {
+    match run_script(rt, alloc, script, &Open) {
         Ok(outcome) => match text(alloc, &outcome) {
             Ok(text) => Ok(text),
             Err(OutOfMemory) => Err(Status::OutOfMemory),
         },
-        Err(AllocError) => Err(Status::OutOfMemory),
+        Err(plain_table::OutOfMemory) => Err(Status::OutOfMemory),
     }
 }

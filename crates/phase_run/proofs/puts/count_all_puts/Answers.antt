@@ -1,5 +1,5 @@
 -- Each turn counts the puts of one mutator more; where one list has ended, the rest puts nothing.
-use Rattle.std.proofs.Common.{◌≡◌, ◌⊎◌, ◌+◌, ◌≤◌, ℕ, List, [], ◌∷◌, length, ◌∙◌, refl, inl, inr, ap, arith}
+use Rattle.std.proofs.Common.{◌≡◌, ◌⊎◌, List, [], ◌∷◌, length, ◌∙◌, refl, inl, inr, ap, arith}
 use Rattle.plain_table.specs.declared.scripts.Op.{Op}
 use Rattle.plain_table.specs.declared.reports.Reply.{Reply}
 use Rattle.script_reader.specs.Valid.{lists_length}
@@ -37,9 +37,9 @@ loop-made-preserved c =
     let before = c.loop-made.invariant in
     let few = c.count_puts-puts.ensures.few in
     let puts = c.count_puts-puts.ensures.puts ∙ ap (λ (ops : List Op). puts_of ops c.as_slice-in-loop-made.result.now) c.as_slice.ensures
-        ∙ ap (puts_of c.in-Some.made.now) c.as_slice-in-loop-made.ensures in
+    ∙ ap (puts_of c.in-Some.made.now) c.as_slice-in-loop-made.ensures in
     let turn = ap (λ (lists : List (List Op)). puts_of_all lists c.loop-made.made-iterator.b.rest.now) c.in-Some.ensures.steps.0
-        ∙ ap (puts_of_all (c.in-Some.made.now ∷ c.next.new.self.a.rest.now)) c.in-Some.ensures.steps.1 in
+    ∙ ap (puts_of_all (c.in-Some.made.now ∷ c.next.new.self.a.rest.now)) c.in-Some.ensures.steps.1 in
     (omega (arith, before.0, turn, puts), omega (arith, calls, made, before.1, few))
 
 pub returns-clause-puts : goal.returns-clause-puts

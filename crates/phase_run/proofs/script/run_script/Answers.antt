@@ -3,8 +3,6 @@ use Rattle.std.proofs.Common.{◌≡◌, ℕ, ◌+◌, ◌<◌, List, [], length
 use Rattle.std.proofs.lemmas.List.{take_all}
 use Rattle.plain_table.specs.declared.scripts.Phase.{Phase}
 use Rattle.plain_table.specs.declared.reports.PhaseReport.{PhaseReport}
-use Rattle.plain_table.specs.Table.{Sizes}
-use Rattle.script_reader.specs.Lines.{most_operations}
 use Rattle.script_reader.specs.Valid.{lists_length}
 use Rattle.entry_word.specs.Image.{sizes_of}
 use Rattle.phases.specs.Phases.{CanRun}
@@ -29,7 +27,7 @@ loop-phase-init g c =
 
 -- the phase of this turn is that of the script
 pub run_and_meet-requires-clause-calls : goal.run_and_meet-requires-clause-calls
-run_and_meet-requires-clause-calls g c =
+run_and_meet-requires-clause-calls g c lifetimes live =
     let script = c.args.script.now in
     let k = c.loop-phase.phase-index in
     let d = c.phase-item.result in
@@ -38,7 +36,7 @@ run_and_meet-requires-clause-calls g c =
     subst (λ (phase : Phase). CanRun script.limits phase.calls) (sym is) (CanRun-valid script c.requires.valid k d within)
 
 pub run_and_meet-requires-clause-few : goal.run_and_meet-requires-clause-few
-run_and_meet-requires-clause-few g c =
+run_and_meet-requires-clause-few g c lifetimes live =
     let script = c.args.script.now in
     let k = c.loop-phase.phase-index in
     let d = c.phase-item.result in
@@ -49,7 +47,7 @@ run_and_meet-requires-clause-few g c =
     omega (arith, calls, most)
 
 pub run_and_meet-requires-clause-meet : goal.run_and_meet-requires-clause-meet
-run_and_meet-requires-clause-meet g c =
+run_and_meet-requires-clause-meet g c lifetimes live =
     let script = c.args.script.now in
     let k = c.loop-phase.phase-index in
     let d = c.phase-item.result in
@@ -101,5 +99,7 @@ returns g c =
     let k = c.loop-phase.phase-index in
     let all : take k script.phases ≡ script.phases =
     take_all k script.phases (let long = ap (λ (phases : List Phase). length phases) c.as_slice-phases.ensures in omega (arith, long)) in
-    answers_run script c.loop-phase.mutator (take k script.phases) c.loop-phase.reports c.loop-phase.puts c.totals-totals.result _ all c.loop-phase.invariant.run
-    c.totals-totals.ensures (record { phases = refl; live = refl; trusted = refl; objects = refl; sum = refl; puts = refl })
+    record {
+      answers = answers_run script c.loop-phase.mutator (take k script.phases) c.loop-phase.reports c.loop-phase.puts c.totals-totals.result _ all c.loop-phase.invariant.run
+          c.totals-totals.ensures (record { phases = refl; live = refl; trusted = refl; objects = refl; sum = refl; puts = refl });
+    }

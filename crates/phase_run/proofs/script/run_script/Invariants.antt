@@ -10,7 +10,7 @@ use Rattle.phase_run.specs.Run.{HaveRun}
 use Rattle.phase_run.proofs.script.run_script.Given as goal
 
 abbrev pub invariant-loop-phase : goal.invariant-loop-phase
-invariant-loop-phase l = record {
+invariant-loop-phase g l = record {
   ready : IsReady l.mutator;
   sizes : sizes_of l.mutator.image.shape ≡ (opening l.initial.script.limits).sizes;
   run : HaveRun l.initial.script.limits l.mutator (take l.phase-index l.initial.script.phases) l.reports l.puts;

@@ -1,6 +1,5 @@
-use Rattle.std.proofs.Common.{◌≡◌, ◌≤◌, ◌+◌, ◌∙◌, ◌++◌, ◌∷◌, [], length, map, sym, ap, subst, arith, append_assoc}
+use Rattle.std.proofs.Common.{◌≡◌, ◌∙◌, ◌++◌, ◌∷◌, [], map, sym, ap, subst, arith, append_assoc}
 use Rattle.std.proofs.lemmas.List.{length-append, map-append}
-use Rattle.entry_base.specs.declared.view.View.{View}
 use Rattle.entry_base.specs.Sessions.{view}
 use Rattle.entry_base.proofs.Sums.{total_append}
 use Rattle.chunk_pool.specs.Claims.{both}

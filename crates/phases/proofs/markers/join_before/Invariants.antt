@@ -1,9 +1,9 @@
-use Rattle.std.proofs.Common.{◌≡◌, ◌++◌, ◌*◌, ◌≤◌, All, length, map}
+use Rattle.std.proofs.Common.{◌≡◌, ◌++◌, ◌*◌, ◌≤◌, length, map}
 use Rattle.entry_base.specs.Lists.{total}
 use Rattle.entry_base.specs.Sessions.{view, IsOf}
 use Rattle.chunk_pool.specs.Thieves.{claims_of, IsThiefOf}
 use Rattle.phases.specs.declared.markers.Marking.{Marking}
-use Rattle.phases.specs.Markings.{HasEnded, all_joined}
+use Rattle.phases.specs.Markings.{all_joined}
 use Rattle.phases.specs.Sessions.{TookIn}
 use Rattle.phases.proofs.markers.join_before.Given as goal
 

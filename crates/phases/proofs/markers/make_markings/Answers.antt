@@ -1,4 +1,3 @@
-use Rattle.std.proofs.Common.{subst}
 use Rattle.phases.proofs.Ready.{AreReady-made}
 use Rattle.phases.proofs.markers.make_markings.Goals as goal
 
