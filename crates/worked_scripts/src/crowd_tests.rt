@@ -1,5 +1,5 @@
 // Eight mutators on one table, alone and concurrently with markers.
-use crate::runs::gives_with_markers;
+use crate::runs::gives_with_any_markers;
 use std::test::Fail;
 
 pub(crate) const EIGHT_MUTATORS: &str = "ept 1 seg=4 ext=3 tru=1 objects=9 mutators=8 markers=";
@@ -256,5 +256,5 @@ end live=7 trusted=1 objects=9
 fn eight_mutators_and_four_markers_share_a_table_in_a_compaction(
     rt: HostRuntime,
 ) -> Result<(), Fail> {
-    gives_with_markers(&rt, EIGHT_MUTATORS, RING, RING_REPORT)
+    gives_with_any_markers(&rt, EIGHT_MUTATORS, RING, RING_REPORT)
 }

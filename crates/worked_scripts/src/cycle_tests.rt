@@ -1,5 +1,5 @@
 // Cycles with markers: what mutators do meanwhile, and what is kept, moved and freed.
-use crate::runs::{gives_one_of, gives_with_markers};
+use crate::runs::{gives_one_of, gives_with_any_markers};
 use std::test::Fail;
 
 /// Both mutators init a new object in a cycle whose area has all free indexes, with two markers.
@@ -113,7 +113,7 @@ end live=2 trusted=0 objects=4
 fn a_compaction_has_the_same_report_with_any_number_of_markers(
     rt: HostRuntime,
 ) -> Result<(), Fail> {
-    gives_with_markers(&rt, ONE_MUTATOR, COMPACTION, COMPACTION_REPORT)
+    gives_with_any_markers(&rt, ONE_MUTATOR, COMPACTION, COMPACTION_REPORT)
 }
 
 pub(crate) const TWO_MUTATORS: &str = "ept 1 seg=4 ext=2 tru=1 objects=6 mutators=2 markers=";
@@ -220,5 +220,5 @@ end live=2 trusted=0 objects=5
 fn what_is_linked_in_one_phase_of_a_cycle_and_fetched_in_the_next_keeps_its_cell(
     rt: HostRuntime,
 ) -> Result<(), Fail> {
-    gives_with_markers(&rt, TWO_MUTATORS, THREE_PHASES, THREE_PHASES_REPORT)
+    gives_with_any_markers(&rt, TWO_MUTATORS, THREE_PHASES, THREE_PHASES_REPORT)
 }

@@ -9,7 +9,7 @@ use crate::race_tests::{
     IN_ORDER, IN_TURNED_ORDER, SECOND_AT_ONE, SECOND_AT_TWO, TWO_EXCHANGES, TWO_EXCHANGES_START,
     TWO_INITS, TWO_INITS_START,
 };
-use crate::runs::{gives, gives_one_of, joined};
+use crate::runs::{gives, gives_one_of, with_markers};
 use crate::sharing_tests::{EXCHANGE, EXCHANGE_REPORT, TICKETS, TICKETS_REPORT};
 use std::test::Fail;
 
@@ -144,7 +144,7 @@ fn the_reports_of_cycles_are_the_same_by_ranges(rt: HostRuntime) -> Result<(), F
         (TWO_MUTATORS, THREE_PHASES, THREE_PHASES_REPORT),
         (EIGHT_MUTATORS, RING, RING_REPORT),
     ] {
-        let old = joined(&rt, &[header, "2\n", lines])?;
+        let old = with_markers(&rt, header, "2", lines)?;
         let script = with_ranges(&rt, old.as_str())?;
         gives(&rt, script.as_str(), report)?;
     }

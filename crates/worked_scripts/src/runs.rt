@@ -12,13 +12,18 @@ use table_run::{Status, run_main};
 /// The room of a sink that takes every report of these tests, and the most bytes of a piece.
 const ROOM: usize = 8192;
 
-/// The parts in one text.
-pub(crate) fn joined<R: AllocGlobal>(rt: &R, parts: &[&str]) -> Result<String, Fail> {
-    let mut whole = String::new(rt.alloc());
-    for part in parts {
-        whole.push_str(part)?;
-    }
-    Ok(whole)
+/// The script of a header, which ends where the number of markers stands, of this number, and of the lines after it.
+pub(crate) fn with_markers<R: AllocGlobal>(
+    rt: &R,
+    header: &str,
+    markers: &str,
+    lines: &str,
+) -> Result<String, Fail> {
+    let mut script = String::from_str(rt.alloc(), header)?;
+    script.push_str(markers)?;
+    script.push_str("\n")?;
+    script.push_str(lines)?;
+    Ok(script)
 }
 
 /// The report of a script by the top call.
@@ -76,15 +81,15 @@ pub(crate) fn gives<R: AllocGlobal + Abort + Threads + Sync>(
     gives_one_of(rt, script, report, &[""])
 }
 
-/// A script that has this report by both calls with each of these numbers of markers. Its header ends where the number stands.
-pub(crate) fn gives_with_markers<R: AllocGlobal + Abort + Threads + Sync>(
+/// A script that has this report by both calls with each of four numbers of markers.
+pub(crate) fn gives_with_any_markers<R: AllocGlobal + Abort + Threads + Sync>(
     rt: &R,
     header: &str,
     lines: &str,
     report: &str,
 ) -> Result<(), Fail> {
-    for markers in ["0\n", "1\n", "2\n", "4\n"] {
-        let script = joined(rt, &[header, markers, lines])?;
+    for markers in ["0", "1", "2", "4"] {
+        let script = with_markers(rt, header, markers, lines)?;
         gives(rt, script.as_str(), report)?;
     }
     Ok(())
