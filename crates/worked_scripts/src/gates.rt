@@ -9,6 +9,9 @@ use std::thread::yield_now;
 /// How often a thread looks for the flag of another one at most.
 const TURNS: u32 = 50_000_000;
 
+/// How often a slow thread yields before a call.
+const PAUSE: u32 = 1_000;
+
 /// A passing of the gate: the number of a mutator or of a marker, and the number of the call in the phase.
 #[derive(Clone, Copy, PartialEq, Eq)]
 pub(crate) struct Place {
@@ -116,6 +119,22 @@ impl Gate for InOrder {
         for own in 0..2 {
             if self.later[own] == place {
                 self.follow(own);
+            }
+        }
+    }
+}
+
+/// A gate that holds one mutator or marker up before each call, so that the others mostly come first.
+#[derive(Drop)]
+pub(crate) struct Slow {
+    pub number: u32,
+}
+
+impl Gate for Slow {
+    fn pass(&self, number: u32, _call: u32) {
+        if number == self.number {
+            for _ in 0..PAUSE {
+                yield_now();
             }
         }
     }

@@ -1,4 +1,5 @@
 // Runs of scripts from text: the report by the top call, and by the run of a script with a gate.
+use crate::gates::Slow;
 use ept_io::{MemorySink, MemorySource};
 use phase_calls::{Gate, Open};
 use phase_run::run_script;
@@ -58,7 +59,8 @@ fn assert_one_of(rt: &impl Abort, report: &str, common: &str, endings: &[&str]) 
     assert!(rt; is_one, "another report:\n{report}");
 }
 
-/// A script whose report, by both calls, begins with `common`, and goes on with one of the endings.
+/// A script whose report, by both calls, begins with `common`, and goes on with one of the endings, also where the mutators 0 and 1
+/// and the marker 8 are slow in turn.
 pub(crate) fn gives_one_of<R: AllocGlobal + Abort + Threads + Sync>(
     rt: &R,
     script: &str,
@@ -67,6 +69,10 @@ pub(crate) fn gives_one_of<R: AllocGlobal + Abort + Threads + Sync>(
 ) -> Result<(), Fail> {
     let report = reported(rt, script, &Open)?;
     assert_one_of(rt, report.as_str(), common, endings);
+    for number in [0, 1, 8] {
+        let report = reported(rt, script, &Slow { number })?;
+        assert_one_of(rt, report.as_str(), common, endings);
+    }
     let report = printed(rt, script)?;
     assert_one_of(rt, report.as_str(), common, endings);
     Ok(())
