@@ -25,7 +25,7 @@ const PIECE: usize = 16;
 
 /// What a run is made over: the words, the reads and writes that fail, the room of the sink, and how many bytes a read gives and a
 /// write takes at most.
-#[derive(Clone, Copy)]
+#[derive(Clone, Copy, Debug)]
 pub(crate) struct Setting<'a> {
     pub(crate) words: &'a [&'a str],
     pub(crate) fail_read: &'a [u32],
@@ -57,8 +57,7 @@ pub(crate) fn check_bytes<R: AllocGlobal + Abort + Threads + Sync>(
     status: Status,
     text: &[u8],
 ) -> Result<(), Fail> {
-    let Setting { room, piece, .. } = setting;
-    assert!(rt; piece > 0);
+    assert!(rt; setting.piece > 0);
     let alloc = rt.alloc();
     let mut words = Vec::new(alloc);
     for word in setting.words {
@@ -67,11 +66,11 @@ pub(crate) fn check_bytes<R: AllocGlobal + Abort + Threads + Sync>(
     let bytes = script.len();
     let fail_read = Vec::from_slice(alloc, setting.fail_read)?;
     let fail_write = Vec::from_slice(alloc, setting.fail_write)?;
-    let mut source = MemorySource::new(script, piece, fail_read);
-    let mut sink = MemorySink::new(alloc, room, piece, fail_write)?;
+    let mut source = MemorySource::new(script, setting.piece, fail_read);
+    let mut sink = MemorySink::new(alloc, setting.room, setting.piece, fail_write)?;
     let answer = run_main(rt, alloc, words.as_slice(), &mut source, &mut sink);
-    assert_eq!(rt; answer, status, "script of {bytes} bytes, room {room}");
-    assert_eq!(rt; sink.bytes(), text, "script of {bytes} bytes, room {room}");
+    assert_eq!(rt; answer, status, "{bytes} bytes over {setting:?}");
+    assert_eq!(rt; sink.bytes(), text, "{bytes} bytes over {setting:?}");
     Ok(())
 }
 
