@@ -8,6 +8,8 @@
 
 mod answers;
 #[cfg(test)]
+mod fault_tests;
+#[cfg(test)]
 mod run_tests;
 mod soak;
 #[cfg(test)]

@@ -20,16 +20,18 @@ const FIRST_PATH: &str =
 /// The room of a sink that takes every report of these tests.
 const ROOM: usize = 4096;
 
-/// How many bytes a read gives and a write takes at most.
+/// How many bytes a read gives and a write takes at most, where a test doesn't say.
 const PIECE: usize = 16;
 
-/// What a run is made over: the words, the reads and writes that fail, and the room of the sink.
-#[derive(Clone, Copy)]
+/// What a run is made over: the words, the reads and writes that fail, the room of the sink, and how many bytes a read gives and a
+/// write takes at most.
+#[derive(Clone, Copy, Debug)]
 pub(crate) struct Setting<'a> {
-    words: &'a [&'a str],
-    fail_read: &'a [u32],
-    fail_write: &'a [u32],
-    room: usize,
+    pub(crate) words: &'a [&'a str],
+    pub(crate) fail_read: &'a [u32],
+    pub(crate) fail_write: &'a [u32],
+    pub(crate) room: usize,
+    pub(crate) piece: usize,
 }
 
 /// Runs over the joined parts of a script, and compares the status and the written text.
@@ -40,22 +42,35 @@ pub(crate) fn check<R: AllocGlobal + Abort + Threads + Sync>(
     status: Status,
     text: &str,
 ) -> Result<(), Fail> {
+    let mut script = Vec::new(rt.alloc());
+    for part in parts {
+        script.extend_from_slice(part.as_bytes())?;
+    }
+    check_bytes(rt, setting, script, status, text.as_bytes())
+}
+
+/// Runs over the bytes of a script, and compares the status and the written bytes.
+pub(crate) fn check_bytes<R: AllocGlobal + Abort + Threads + Sync>(
+    rt: &R,
+    setting: Setting,
+    script: Vec<u8>,
+    status: Status,
+    text: &[u8],
+) -> Result<(), Fail> {
+    assert!(rt; setting.piece > 0);
     let alloc = rt.alloc();
     let mut words = Vec::new(alloc);
     for word in setting.words {
         words.push(String::from_str(alloc, word)?)?;
     }
-    let mut script = Vec::new(alloc);
-    for part in parts {
-        script.extend_from_slice(part.as_bytes())?;
-    }
+    let bytes = script.len();
     let fail_read = Vec::from_slice(alloc, setting.fail_read)?;
     let fail_write = Vec::from_slice(alloc, setting.fail_write)?;
-    let mut source = MemorySource::new(script, PIECE, fail_read);
-    let mut sink = MemorySink::new(alloc, setting.room, PIECE, fail_write)?;
+    let mut source = MemorySource::new(script, setting.piece, fail_read);
+    let mut sink = MemorySink::new(alloc, setting.room, setting.piece, fail_write)?;
     let answer = run_main(rt, alloc, words.as_slice(), &mut source, &mut sink);
-    assert_eq!(rt; answer, status);
-    assert_eq!(rt; sink.bytes(), text.as_bytes());
+    assert_eq!(rt; answer, status, "{bytes} bytes over {setting:?}");
+    assert_eq!(rt; sink.bytes(), text, "{bytes} bytes over {setting:?}");
     Ok(())
 }
 
@@ -66,6 +81,7 @@ pub(crate) fn plain<'a>(words: &'a [&'a str]) -> Setting<'a> {
         fail_read: &[],
         fail_write: &[],
         room: ROOM,
+        piece: PIECE,
     }
 }
 
@@ -171,10 +187,10 @@ fn faults_end_a_run_with_their_statuses(rt: HostRuntime) -> Result<(), Fail> {
         (&[], &[2], ROOM, Status::WriteFault, "m0 obj 0\nm0 ok\nm"),
     ] {
         let setting = Setting {
-            words: &["run"],
             fail_read,
             fail_write,
             room,
+            ..plain(&["run"])
         };
         check(
             &rt,
