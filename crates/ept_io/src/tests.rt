@@ -1,3 +1,4 @@
+use crate::faults::FaultCount;
 use crate::{
     Failed, MemorySink, MemorySource, ReadErr, ReadSource, Sink, Source, WriteSink, read_script,
     write_all,
@@ -149,5 +150,21 @@ fn the_adapters_fit_the_standard_streams(rt: HostRuntime) -> Result<(), Fail> {
         write_all(&mut WriteSink::new(io::writer(&rt)), TEXT),
         Ok(())
     );
+    Ok(())
+}
+
+// A count at its last value can't rise: that a call failed is then said by its answer alone.
+#[test]
+fn a_count_of_faults_rises_to_its_last_value_and_stays(rt: HostRuntime) -> Result<(), Fail> {
+    for (count, next) in [
+        (0, 1),
+        (u64::MAX - 2, u64::MAX - 1),
+        (u64::MAX - 1, u64::MAX),
+        (u64::MAX, u64::MAX),
+    ] {
+        let mut faults = FaultCount { count };
+        assert_eq!(rt; faults.rise(), Failed);
+        assert_eq!(rt; faults.count, next);
+    }
     Ok(())
 }

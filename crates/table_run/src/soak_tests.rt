@@ -8,6 +8,8 @@ fn a_soak_writes_the_line_of_its_seed(rt: HostRuntime) -> Result<(), Fail> {
     for (seed, line) in [
         ("0", "soak live=1200 sum=00000057d140 gone=8400\n"),
         ("1", "soak live=1200 sum=00000057d5f0 gone=8400\n"),
+        // Again: another run of the same threads, and the same line.
+        ("1", "soak live=1200 sum=00000057d5f0 gone=8400\n"),
         (
             "281474976710655",
             "soak live=1200 sum=00000057cc90 gone=8400\n",
