@@ -1,8 +1,9 @@
 -- Hexadecimal digits that are written from the last one on.
-use Rattle.std.proofs.Common.{◌≡◌, ℕ, suc, zero, false, ◌+◌, ◌-◌, ◌/◌, ◌%◌, ◌<◌, ◌≤◌, List, [], ◌∷◌, ◌++◌, length, drop, take, slice_set, sym, ◌∙◌, ap, arith}
+use Rattle.std.proofs.Common.{◌≡◌, ℕ, suc, zero, false, ◌+◌, ◌-◌, ◌/◌, ◌%◌, ◌<◌, ◌≤◌, ◌==◌, ◌&&◌, Bool, true, inl, inr, codes, slice_index, List, [], ◌∷◌, ◌++◌, length, drop, take, slice_set, refl, sym, ◌∙◌, ap, arith}
 use Rattle.std.specs.Fmt.{digit_glyph}
 use Rattle.std.specs.Str.{IsAscii, IsUtf8}
 use Rattle.std.proofs.lemmas.Grind.{common_steps}
+use Rattle.std.proofs.lemmas.Bool.{and_parts, cases_lt, eqb-true}
 use Rattle.std.proofs.lemmas.Bool.Decides.{nat_tests}
 use Rattle.std.proofs.lemmas.List.{append_assoc, drop-set, take_all}
 use Rattle.std.proofs.lemmas.Str.{IsAscii-append, IsUtf8-from_ascii}
@@ -29,7 +30,29 @@ write_digit start at rest word whole h l e =
     (sym (append_assoc (hex (at - 1 - start) (rest / 16)) (digit_glyph false (rest % 16) ∷ []) (drop at word))
     ∙ sym s ∙ e)
 
-glyph_ascii : (d : ℕ) → d < 16 → digit_glyph false d < 128
+-- the test that a digit's character stands at its place in the row of all sixteen, and the test of the first n of them
+abbrev is_at_place : ℕ → Bool
+is_at_place d = slice_index (codes "0123456789abcdef") d == digit_glyph false d
+
+abbrev are_at_place : ℕ → Bool
+are_at_place zero = true
+are_at_place (suc n) = is_at_place n && are_at_place n
+
+place_below : (n d : ℕ) → are_at_place n ≡ true → d < n → is_at_place d ≡ true
+place_below zero d h l = absurd (omega arith)
+place_below (suc n) d h l =
+    let parts = and_parts (is_at_place n) (are_at_place n) h in
+    elim (cases_lt d n) [
+      | inl below ↦ place_below n d parts.1 below
+      | inr top ↦
+          let e : d ≡ n = omega arith in
+          rw e parts.0
+    ]
+
+pub glyph_at : (d : ℕ) → d < 16 → slice_index (codes "0123456789abcdef") d ≡ digit_glyph false d
+glyph_at d h = eqb-true (slice_index (codes "0123456789abcdef") d) (digit_glyph false d) (place_below 16 d refl h)
+
+pub glyph_ascii : (d : ℕ) → d < 16 → digit_glyph false d < 128
 glyph_ascii d h = grind (arith, common_steps, nat_tests)
 
 hex_ascii : (k n : ℕ) → IsAscii (hex k n)

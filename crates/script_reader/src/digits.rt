@@ -5,20 +5,26 @@ ghost use Rattle.script_reader.specs.Canonical.{hex};
 
 use std::alloc::AllocError;
 
-/// How many digits any `u64` has at most.
+/// The digits that any `u64` has at most.
 const MOST_DIGITS: usize = 16;
 
-/// Appends the last lower-case hexadecimal digits of a number, so many of them (`hex` in `specs/Canonical.antt`). More
-/// than a `u64` has are appended one by one. The only error is want of memory.
+const LOWER_DIGITS: &[u8; 16] = b"0123456789abcdef";
+
+/// Appends the last lower-case hexadecimal digits of a number, so many of them (`hex` in `specs/Canonical.antt`). Up to
+/// sixteen are appended at once, unless they are so few that one by one takes less time; those in front of sixteen come
+/// one by one. The only error is want of memory.
 #[tactic(auto, unfolding(crate::specs::Canonical::hex))]
 pub fn push_hex(text: &mut String, digits: u8, number: u64) -> Result<(), AllocError>
     ensures { OnOk result (string_bytes text.new ≡ string_bytes text.old ++ hex digits number) }
 {
-    if usize::from(digits) <= MOST_DIGITS {
-        return push_word(text, usize::from(digits), number);
+    match digits {
+        0 => Ok(()),
+        5..=16 => push_word(text, usize::from(digits), number),
+        _ => {
+            push_hex(text, digits - 1, number / 16)?;
+            text.push(char::from(hex_digit((number % 16) as u8)))
+        }
     }
-    push_hex(text, digits - 1, number / 16)?;
-    text.push(char::from(hex_digit((number % 16) as u8)))
 }
 
 // The digits are written from the last one on, and appended at once.
@@ -43,9 +49,5 @@ fn hex_digit(digit: u8) -> u8
     ensures value { result ≡ digit_glyph false digit }
     ensures ascii { result < 128 }
 {
-    if digit < 10 {
-        b'0' + digit
-    } else {
-        b'a' + (digit - 10)
-    }
+    LOWER_DIGITS[usize::from(digit)]
 }
