@@ -1,12 +1,14 @@
--- A line with a word more than its form has.
-use Rattle.std.proofs.Common.{◌≡◌, ℕ, ◌==◌, ◌<◌, length, false, List, [], ◌∷◌, Result, Err, refl, arith}
+-- A line with a word more than its form has, and one with a fault before its last place.
+use Rattle.std.proofs.Common.{◌≡◌, ℕ, ◌==◌, ◌<◌, ◌≤◌, ◌-◌, length, drop, take, slice_index_or, false, List, [], ◌∷◌, Result, Err, refl, sym, arith}
+use Rattle.std.proofs.lemmas.List.{take_all}
 use Rattle.script_reader.specs.declared.refusals.Fault.{Fault}
 use Rattle.script_reader.specs.declared.refusals.Fault.TheVariants.{BadLine}
 use Rattle.script_reader.specs.declared.lines.Counts.{Counts}
 use Rattle.script_reader.specs.declared.lines.Line.{Line}
 use Rattle.script_reader.specs.declared.forms.Place.{Place}
+use Rattle.script_reader.specs.declared.forms.Place.TheVariants.{Variable}
 use Rattle.script_reader.specs.declared.forms.Said.{Said}
-use Rattle.script_reader.specs.Forms.{read_places}
+use Rattle.script_reader.specs.Forms.{first_of, read_at, read_places}
 use Rattle.script_reader.specs.Grammar.{is_empty}
 use Rattle.script_reader.specs.Spelling.{words}
 use Rattle.script_reader.specs.Lines.{alone, start_line}
@@ -37,3 +39,14 @@ pub no_place : (version : ℕ) (places : List Place) (text : List ℕ) (s : Said
     → read_places version places (words text) s ≡ Err BadLine
 no_place version [] text s h = none-full version (words text) s (slice_split-full (λ byte. byte == 32) text)
 no_place version (place ∷ places) text s h = absurd (omega arith)
+
+-- a place with a fault, and what the places after it say of what was said before it
+pub fault_first : (version : ℕ) (places : List Place) (word : List ℕ) (words : List (List ℕ)) (before after : Said)
+    (fault : Fault) (onward : Result Said Fault) → 1 ≤ length places → after ≡ before
+    → Err fault ≡ read_at version (slice_index_or places 0 Variable) word before
+    → onward ≡ read_places version (take (length places - 1) (drop 1 places)) words after
+    → Err (first_of fault onward) ≡ read_places version places (word ∷ words) before
+fault_first version [] word words before after fault onward l same here there = absurd (omega arith)
+fault_first version (place ∷ places) word words before after fault onward l same here there =
+    let all = take_all (length (place ∷ places) - 1) places (omega arith) in
+    rw (sym here, there, all, same) refl

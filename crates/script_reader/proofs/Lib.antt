@@ -1,5 +1,6 @@
 pub mod Splitting
 pub mod Numbers
+pub mod HexDigits
 pub mod Alone
 pub mod Drafts
 pub mod Named

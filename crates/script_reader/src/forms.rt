@@ -1,11 +1,11 @@
 // The forms of operations, and the reading of their places. Each function computes the definition of
 // `specs/Forms.antt` that its contract names.
-ghost use Rattle.std.specs.Prelude.{◌≡◌, ◌<◌, ℕ, [], IfOk, IfSome, Err};
+ghost use Rattle.std.specs.Prelude.{◌≡◌, ◌<◌, ℕ, [], IfOk, IfSome, OnErr, OnOk};
 ghost use Rattle.std.specs.Option.{option_map_or};
 ghost use Rattle.script_reader.specs.Spelling.{small_of, words};
 ghost use Rattle.script_reader.specs.Valid.{IsTarget, IsValidOp};
 ghost use Rattle.script_reader.specs.Reading.{IsSaid};
-ghost use Rattle.script_reader.specs.Forms.{first_of, form_of, nothing_said, number_below, op_of, places_of, read_at, read_mutator, read_on, read_places, target_of};
+ghost use Rattle.script_reader.specs.Forms.{first_of, form_of, mapped, nothing_said, number_below, op_of, places_of, read_at, read_mutator, read_on, read_places, target_of};
 
 use crate::refusals::Fault;
 use crate::words::{index_word, next_word, range, small, tag, value, variable};
@@ -260,76 +260,50 @@ fn ranged_number(bound: u32, word: &[u8]) -> Result<u32, Fault>
     }
 }
 
-/// What a word says at a place, besides what the other places say (`read_at`).
-fn read_at(version: u32, place: Place, word: &[u8], said: Said) -> Result<Said, Fault>
-    requires { IsSaid version said }
-    ensures value { result ≡ read_at version place word.now said }
-    ensures valid { IfOk result (IsSaid version) }
-    ensures same { IfOk result (λ s. s.mutator ≡ said.mutator) }
+/// Reads a word at a place, besides what the other places say (`read_at`). On a fault nothing changes.
+fn read_at(version: u32, place: Place, word: &[u8], said: &mut Said) -> Result<(), Fault>
+    requires { IsSaid version said.old }
+    ensures value { mapped (λ _. said.new) result ≡ read_at version place word.now said.old }
+    ensures kept { OnErr result (said.new ≡ said.old) }
+    ensures valid { IsSaid version said.new }
+    ensures same { said.new.mutator ≡ said.old.mutator }
 {
     match place {
-        Place::Variable => Ok(Said {
-            variable: variable(word).ok_or(Fault::BadLine)?,
-            ..said
-        }),
-        Place::Other => Ok(Said {
-            other: variable(word).ok_or(Fault::BadLine)?,
-            ..said
-        }),
-        Place::Target => Ok(Said {
-            target: target(word).ok_or(Fault::BadLine)?,
-            ..said
-        }),
-        Place::Reference => Ok(Said {
-            reference: ranged_number(4, word)?,
-            ..said
-        }),
-        Place::Field => Ok(Said {
-            field: ranged_number(2, word)?,
-            ..said
-        }),
-        Place::Global => Ok(Said {
-            global: ranged_number(16, word)?,
-            ..said
-        }),
-        Place::Tag => Ok(Said {
-            tag: tag(version, word).ok_or(Fault::BadTag)?.byte(),
-            ..said
-        }),
-        Place::Range => read_range(version, word, said),
-        Place::Word => Ok(Said {
-            word: index_word(word).ok_or(Fault::BadNumber)?,
-            ..said
-        }),
-        Place::Value => Ok(Said {
-            value: value(word).ok_or(Fault::BadNumber)?,
-            ..said
-        }),
+        Place::Variable => said.variable = variable(word).ok_or(Fault::BadLine)?,
+        Place::Other => said.other = variable(word).ok_or(Fault::BadLine)?,
+        Place::Target => said.target = target(word).ok_or(Fault::BadLine)?,
+        Place::Reference => said.reference = ranged_number(4, word)?,
+        Place::Field => said.field = ranged_number(2, word)?,
+        Place::Global => said.global = ranged_number(16, word)?,
+        Place::Tag => said.tag = tag(version, word).ok_or(Fault::BadTag)?.byte(),
+        Place::Range => read_range(version, word, said)?,
+        Place::Word => said.word = index_word(word).ok_or(Fault::BadNumber)?,
+        Place::Value => said.value = value(word).ok_or(Fault::BadNumber)?,
     }
+    Ok(())
 }
 
-/// What a word says at the place of a range (`read_at`).
-fn read_range(version: u32, word: &[u8], said: Said) -> Result<Said, Fault>
-    requires { IsSaid version said }
-    ensures value { result ≡ read_at version Place.Range word.now said }
-    ensures valid { IfOk result (IsSaid version) }
-    ensures same { IfOk result (λ s. s.mutator ≡ said.mutator) }
+/// Reads a word at the place of a range (`read_at`). On a fault nothing changes.
+fn read_range(version: u32, word: &[u8], said: &mut Said) -> Result<(), Fault>
+    requires { IsSaid version said.old }
+    ensures value { mapped (λ _. said.new) result ≡ read_at version Place.Range word.now said.old }
+    ensures kept { OnErr result (said.new ≡ said.old) }
+    ensures valid { IsSaid version said.new }
+    ensures same { said.new.mutator ≡ said.old.mutator }
 {
     let range = range(version, word).ok_or(Fault::BadTag)?;
-    Ok(Said {
-        first: range.first().byte(),
-        last: range.last().byte(),
-        ..said
-    })
+    said.first = range.first().byte();
+    said.last = range.last().byte();
+    Ok(())
 }
 
 /// Of a place's fault and the one of the places after it, where they have one, the one that is tested first
 /// (`first_of`).
-fn first_fault(fault: Fault, onward: Result<Said, Fault>) -> Fault
-    ensures { result ≡ first_of fault onward }
+fn first_fault(fault: Fault, onward: Result<(), Fault>) -> Fault
+    ensures { (said : Said) → result ≡ first_of fault (mapped (λ _. said) onward) }
 {
     match onward {
-        Ok(_) => fault,
+        Ok(()) => fault,
         Err(other) => {
             if fault.order() <= other.order() {
                 fault
@@ -340,16 +314,22 @@ fn first_fault(fault: Fault, onward: Result<Said, Fault>) -> Fault
     }
 }
 
-/// What the words of a line say at these places (`read_places`).
-fn read_all(version: u32, places: &[Place], rest: Option<&[u8]>, said: Said) -> Result<Said, Fault>
-    requires { IsSaid version said }
-    ensures value { result ≡ read_places version places.now (option_map_or (λ r. words r.now) rest.entry []) said }
-    ensures valid { IfOk result (IsSaid version) }
-    ensures same { IfOk result (λ s. s.mutator ≡ said.mutator) }
+/// Reads the words of a line at these places (`read_places`). On a fault some may have been read.
+fn read_all(
+    version: u32,
+    places: &[Place],
+    rest: Option<&[u8]>,
+    said: &mut Said,
+) -> Result<(), Fault>
+    requires { IsSaid version said.old }
+    ensures value { mapped (λ _. said.new) result
+        ≡ read_places version places.now (option_map_or (λ r. words r.now) rest.entry []) said.old }
+    ensures valid { IsSaid version said.new }
+    ensures same { said.new.mutator ≡ said.old.mutator }
 {
     match places {
         [] => match rest {
-            None => Ok(said),
+            None => Ok(()),
             Some(_) => Err(Fault::BadLine),
         },
         [place, more @ ..] => {
@@ -358,23 +338,23 @@ fn read_all(version: u32, places: &[Place], rest: Option<&[u8]>, said: Said) -> 
             };
             let (word, onward) = next_word(text);
             match read_at(version, *place, word, said) {
-                Ok(next) => read_all(version, more, onward, next),
+                Ok(()) => read_all(version, more, onward, said),
                 Err(fault) => Err(first_fault(fault, read_all(version, more, onward, said))),
             }
         }
     }
 }
 
-/// The number of a mutator below `mutators` (`read_mutator`).
-fn read_number(version: u32, mutators: u32, word: &[u8], said: Said) -> Result<Said, Fault>
-    requires { IsSaid version said }
-    ensures value { result ≡ read_mutator mutators word.now said }
-    ensures valid { IfOk result (λ s. IsSaid version s × (s.mutator < mutators)) }
+/// Reads the number of a mutator below `mutators` (`read_mutator`). On a fault nothing changes.
+fn read_number(version: u32, mutators: u32, word: &[u8], said: &mut Said) -> Result<(), Fault>
+    requires { IsSaid version said.old }
+    ensures value { mapped (λ _. said.new) result ≡ read_mutator mutators word.now said.old }
+    ensures kept { OnErr result (said.new ≡ said.old) }
+    ensures valid { IsSaid version said.new }
+    ensures below { OnOk result (said.new.mutator < mutators) }
 {
-    Ok(Said {
-        mutator: ranged_number(mutators, word)?,
-        ..said
-    })
+    said.mutator = ranged_number(mutators, word)?;
+    Ok(())
 }
 
 /// Reads the mutator's number and the places of a form in one.
@@ -389,9 +369,12 @@ pub fn read_said(
         (read_places version (places_of form) (option_map_or (λ r. words r.now) rest.entry [])) }
     ensures valid { IfOk result (λ s. IsSaid version s × (s.mutator < mutators)) }
 {
-    let nothing = nothing();
-    match read_number(version, mutators, mutator, nothing) {
-        Ok(said) => read_all(version, places(form), rest, said),
-        Err(fault) => Err(first_fault(fault, read_all(version, places(form), rest, nothing))),
+    let mut said = nothing();
+    match read_number(version, mutators, mutator, &mut said) {
+        Ok(()) => {
+            read_all(version, places(form), rest, &mut said)?;
+            Ok(said)
+        }
+        Err(fault) => Err(first_fault(fault, read_all(version, places(form), rest, &mut said))),
     }
 }
