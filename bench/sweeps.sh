@@ -35,7 +35,8 @@ row() {
     theirs=$(least "$work/plain_sweep" "$3" "$4" "$5")
     echo "$ours $theirs" | awk -v name="$1" -v units=$(($2 * $5)) '
         NF != 4 || $2 != $4 { print "bench: the programs did not do the same for " name; exit 1 }
-        { printf "| %s | %.2f ns | %.2f ns | %.1f |\n", name, $1 / units, $3 / units, $1 / $3 }' || exit 1
+        { sub(/[0-9][0-9][0-9]$/, ",&", name)
+          printf "| %s | %.2f ns | %.2f ns | %.1f |\n", name, $1 / units, $3 / units, $1 / $3 }' || exit 1
 }
 echo '| Part | sweeper | in C++ | ratio |'
 echo '|---|---|---|---|'
