@@ -1,6 +1,8 @@
 #!/bin/sh
-# Times whole collection cycles (start, pause and sweep) of tables of several kinds, with a plain C++ program of the same job over
-# the same words (plain_sweep.cpp): nanoseconds an entry of the external space, or an object, without those of making the table.
+# Times the parts of a collection cycle, each by itself, by a monotonic clock: the clearing of marks (`clear_marks`), late marking
+# (`late_mark`) and the sweep (`sweep`) of `sweeper`, with the same part in plain C++ over the same words (plain_sweep.cpp). A
+# figure is the least of five runs, each on new tables, in nanoseconds a word, an object or an entry of the external space. A run
+# has as many turns as take about a second, and both programs have to say that they did the same.
 # It proves and builds `sweep_times` in a copy of the crates: its files end in `.in` here, since the gate reads every file of
 # code and takes none outside of crates/. Nothing of this is part of the gate.
 top=$(dirname -- "$(readlink -f -- "$0")")/..
@@ -15,43 +17,44 @@ for crate in tag_set plain_table free_chain evac_area table_laws word_laws entry
     grep "^$crate:" "$top/crates.txt" >> "$work/crates.txt"
     cp -r "$top/crates/$crate" "$work/crates"
 done
-echo 'sweep_times: mutator_calls entry_word plain_table tag_set' >> "$work/crates.txt"
+echo 'sweep_times: sweeper mutator_calls entry_word plain_table tag_set' >> "$work/crates.txt"
 cp -r "$top/bench/sweep_times" "$work/crates"
 find "$work/crates/sweep_times" -name '*.in' | while read -r file; do mv "$file" "${file%.in}"; done
 (cd "$work/crates/sweep_times" && rt run -- empty 1 1 > "$work/log" 2>&1) || { cat "$work/log"; exit 1; }
-c++ -O2 -std=c++17 -o "$work/plain_sweep" "$top/bench/plain_sweep.cpp" || exit 1
+c++ -O3 -std=c++17 -o "$work/plain_sweep" "$top/bench/plain_sweep.cpp" || exit 1
 
-# the least time of five runs, in nanoseconds
+# least PROGRAM KIND SEGMENTS TURNS: the least time of five runs in nanoseconds, and how much was done, or one word where a run fails
 least() {
-    best=
     for _ in 1 2 3 4 5; do
-        begin=$(date +%s%N)
-        "$@" || exit 1
-        spent=$(($(date +%s%N) - begin))
-        if [ -z "$best" ] || [ "$spent" -lt "$best" ]; then best=$spent; fi
-    done
-    echo "$best"
+        "$@" || echo failed
+    done | sort -n | head -n 1
 }
-# row NAME KIND WITHOUT TIMES_WITHOUT SEGMENTS TIMES UNITS: picoseconds a unit of a cycle, in both programs
+# row NAME UNITS KIND SEGMENTS TURNS: nanoseconds a unit, of which a turn has so many, in both programs
 row() {
-    for program in "$work/crates/sweep_times/out/sweep_times" "$work/plain_sweep"; do
-        spent=$(($(least "$program" "$2" "$5" "$6") - $(least "$program" "$3" "$5" "$4")))
-        echo $((spent * 1000 / ($6 * $7)))
-    done | {
-        read -r ours
-        read -r theirs
-        awk -v name="$1" -v ours="$ours" -v theirs="$theirs" 'BEGIN {
-            printf "| %s | %.1f ns | %.1f ns | %.1f |\n", name, ours / 1000, theirs / 1000, ours / (theirs > 0 ? theirs : 1)
-        }'
-    }
+    ours=$(least "$work/crates/sweep_times/out/sweep_times" "$3" "$4" "$5")
+    theirs=$(least "$work/plain_sweep" "$3" "$4" "$5")
+    echo "$ours $theirs" | awk -v name="$1" -v units=$(($2 * $5)) '
+        NF != 4 || $2 != $4 { print "bench: the programs did not do the same for " name; exit 1 }
+        { sub(/[0-9][0-9][0-9]$/, ",&", name)
+          printf "| %s | %.2f ns | %.2f ns | %.1f |\n", name, $1 / units, $3 / units, $1 / $3 }' || exit 1
 }
-echo '| A cycle on | `mutator_calls` | in C++ | ratio |'
+echo '| Part | sweeper | in C++ | ratio |'
 echo '|---|---|---|---|'
 for segments in 16 64 256; do
-    row "no cell, an entry of $((segments * 256))" empty empty 0 "$segments" $((64000 / segments)) $((segments * 256))
+    words=$((segments * 256))
+    row "clearing of marks, a word of $words" $words clear $segments $((4000000 / segments))
 done
-row '32,768 cells, an entry of 65,536' cells cells 0 256 200 65536
-row 'a compaction of half of 32,768 cells, an entry of 65,536' moves settled 40 256 40 65536
-row 'a chain of 16,384 objects, an object' chain chain 0 1 400 16384
-row '16 chains, an object' wide wide 0 1 400 16384
-row 'four references each, an object' heap heap 0 1 400 16384
+row 'late marking, a chain of 16,384 objects, an object' 16384 chain 256 1000
+row 'late marking, 16 chains, an object' 16384 wide 256 1000
+row 'late marking, three trees of four branches, an object' 16383 tree 256 1000
+row 'late marking, four references each, an object' 16384 heap 256 1000
+# sweeps NAME KIND TURNS: of three sizes, where the greatest one is swept in so many turns
+sweeps() {
+    for segments in 16 64 256; do
+        entries=$((segments * 256))
+        row "sweep, $1, an entry of $entries" $entries "$2" $segments $(($3 * 256 / segments))
+    done
+}
+sweeps 'no cell' empty 1000
+sweeps 'cells in half of the entries' cells 1000
+sweeps 'moves of a quarter of the entries' moves 250
