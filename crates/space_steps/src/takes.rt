@@ -18,6 +18,7 @@ ghost use Rattle.space_steps.specs.Segments.{HasRisen};
 ghost use Rattle.space_steps.specs.Takes.{HasFewTries, MovedOn, TookIndex, taken_reply};
 ghost use Rattle.space_steps.specs.Tickets.{TakenTo};
 
+use crate::pauses::{FIRST_TURNS, pause};
 use crate::segments::commit_at;
 use crate::tickets::{Taken, Ticket};
 use entry_base::{Session, Shared};
@@ -48,6 +49,7 @@ pub fn take<L: Ledger>(
     ensures few { HasFewTries (view s.old) space steps.old steps.new (view s.new) }
 {
     let mut word = load_freelist_for_take(shared, s, space);
+    let mut turns = FIRST_TURNS;
     loop {
         if word / LENGTH == 0 && word >= shared.limit(space) as u64 {
             return Taken::Full;
@@ -55,6 +57,7 @@ pub fn take<L: Ledger>(
         if let Some(ticket) = advance(shared, s, space, word, steps) {
             return Taken::At(ticket);
         }
+        turns = pause(turns);
         word = load_freelist_for_take(shared, s, space);
     }
 }
@@ -128,6 +131,7 @@ pub fn below<L: Ledger>(shared: &Shared, s: &mut Session, start: u32, steps: &mu
     ensures few { HasFewTries (view s.old) External steps.old steps.new (view s.new) }
 {
     let mut word = load_freelist_for_below(shared, s, start);
+    let mut turns = FIRST_TURNS;
     loop {
         if word / LENGTH == 0 || start as u64 <= word % LENGTH {
             return Taken::NoRoom;
@@ -135,6 +139,7 @@ pub fn below<L: Ledger>(shared: &Shared, s: &mut Session, start: u32, steps: &mu
         if let Some(ticket) = try_below(shared, s, start, word, steps) {
             return Taken::At(ticket);
         }
+        turns = pause(turns);
         word = load_freelist_for_below(shared, s, start);
     }
 }
