@@ -108,7 +108,8 @@ fn cut_own(
     requires mutator { (view s.old).number < 8 }
     requires in_cycle { phase_of (view s.old).opening ≡ 1 }
     ensures caller { IsOf shared.now s.new }
-    ensures same { SameCaller (view s.old) (view s.new) }
+    ensures opening { (view s.new).opening ≡ (view s.old).opening }
+    ensures number { (view s.new).number ≡ (view s.old).number }
     ensures chunk { IfOk result (λ chunk. IsChunkOf shared.now chunk) }
 {
     let mut objects = Vec::new(alloc);
@@ -132,7 +133,8 @@ pub(crate) fn eight_chunks(
     requires mutator { (view s.old).number < 8 }
     requires in_cycle { phase_of (view s.old).opening ≡ 1 }
     ensures caller { IsOf shared.now s.new }
-    ensures same { SameCaller (view s.old) (view s.new) }
+    ensures opening { (view s.new).opening ≡ (view s.old).opening }
+    ensures number { (view s.new).number ≡ (view s.old).number }
     ensures eight { IfOk result (λ chunks. length chunks.items ≡ 8) }
     ensures chunks { IfOk result (λ chunks. All (IsChunkOf shared.now) chunks.items) }
 {
