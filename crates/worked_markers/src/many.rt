@@ -110,6 +110,7 @@ fn cut_own(
     ensures caller { IsOf shared.now s.new }
     ensures opening { (view s.new).opening ≡ (view s.old).opening }
     ensures number { (view s.new).number ≡ (view s.old).number }
+    ensures numbers { (view s.new).numbers ≡ (view s.old).numbers }
     ensures chunk { IfOk result (λ chunk. IsChunkOf shared.now chunk) }
 {
     let mut objects = Vec::new(alloc);
@@ -135,6 +136,7 @@ pub(crate) fn eight_chunks(
     ensures caller { IsOf shared.now s.new }
     ensures opening { (view s.new).opening ≡ (view s.old).opening }
     ensures number { (view s.new).number ≡ (view s.old).number }
+    ensures numbers { (view s.new).numbers ≡ (view s.old).numbers }
     ensures eight { IfOk result (λ chunks. length chunks.items ≡ 8) }
     ensures chunks { IfOk result (λ chunks. All (IsChunkOf shared.now) chunks.items) }
 {

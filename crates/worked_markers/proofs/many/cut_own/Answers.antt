@@ -19,3 +19,6 @@ returns-clause-opening g c = ap (λ (v : View). v.opening) c.cut.ensures.left �
 
 pub returns-clause-number : goal.returns-clause-number
 returns-clause-number g c = ap (λ (v : View). v.number) c.cut.ensures.left ∙ c.loop.invariant.same.number
+
+pub returns-clause-numbers : goal.returns-clause-numbers
+returns-clause-numbers g c = ap (λ (v : View). v.numbers) c.cut.ensures.left ∙ c.loop.invariant.same.numbers

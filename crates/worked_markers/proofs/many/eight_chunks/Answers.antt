@@ -10,6 +10,7 @@ loop-number-preserved g c =
       caller = cut.caller;
       opened = cut.opening ∙ c.loop-number.invariant.opened;
       numbered = cut.number ∙ c.loop-number.invariant.numbered;
+      all = cut.numbers ∙ c.loop-number.invariant.all;
       count = search rules;
       chunks = subst (All (IsChunkOf c.args.shared.now)) (search rules) (All-push (IsChunkOf c.args.shared.now) c.loop-number.chunks.items c.in_ok-cut_own.field-0 c.loop-number.invariant.chunks c.in_ok-cut_own.ensures.chunk);
     }

@@ -7,6 +7,7 @@ invariant-loop-number g l = record {
   caller : IsOf l.shared l.s;
   opened : (view l.s).opening ≡ (view l.fn.s).opening;
   numbered : (view l.s).number ≡ (view l.fn.s).number;
+  all : (view l.s).numbers ≡ (view l.fn.s).numbers;
   count : length l.chunks.items ≡ l.number;
   chunks : All (IsChunkOf l.shared) l.chunks.items;
 }
