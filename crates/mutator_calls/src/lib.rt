@@ -6,25 +6,15 @@
 //! `cycles.rt` the start and the finish of a cycle and the totals; `freelists.rt` takes indexes, `entries.rt` reads entries.
 #![tactic(auto)]
 
-#[cfg(test)]
-mod cell_tests;
 mod cells;
-#[cfg(test)]
-mod cycle_tests;
 mod cycles;
 mod entries;
 mod freelists;
 mod heap;
-#[cfg(test)]
-mod init_tests;
 mod inits;
-#[cfg(test)]
-mod object_tests;
 mod objects;
 mod places;
 mod trusted;
-#[cfg(test)]
-mod trusted_tests;
 
 pub use cycles::Totals;
 pub use heap::Mutator;

@@ -6,7 +6,5 @@
 #![tactic(auto)]
 
 mod report;
-#[cfg(test)]
-mod tests;
 
 pub use report::{fault_text, soak_text, text};

@@ -10,6 +10,3 @@ mod seeds;
 
 pub use generator::generate;
 pub use seeds::seed_of;
-
-#[cfg(test)]
-mod tests;

@@ -24,6 +24,3 @@ pub use law::{printed_is_read_back, upgrade, upgraded_is_valid};
 pub use printer::print;
 pub use reader::parse;
 pub use refusals::{OutOfMemory, ScriptErr};
-
-#[cfg(test)]
-mod tests;

@@ -7,17 +7,7 @@
 #![tactic(auto)]
 
 mod answers;
-#[cfg(test)]
-mod fault_tests;
-#[cfg(test)]
-mod run_tests;
 mod soak;
-#[cfg(test)]
-mod soak_tests;
-#[cfg(test)]
-mod space_tests;
-#[cfg(test)]
-mod tests;
 mod top;
 
 pub use answers::Status;
