@@ -5,6 +5,7 @@ ghost use Rattle.entry_word.specs.Entry.{IsValid, IsTagged, IsNoEntry, entry_wor
 
 use super::{Entry, Image, Shape, decode, encode, index_of, word_of, words_are_unique};
 use plain_table::OutOfMemory;
+use std::process::Abort;
 
 // `decode` of `encode` gives the entry back.
 fn round_trip(e: &Entry) -> Option<Entry>
@@ -116,6 +117,11 @@ fn index_words_hold_the_index_above(rt: HostRuntime) {
     assert_eq!(rt; word_of(2), 0x0002_0000);
 }
 
+// Asserts that a word of an image is the one that is wanted.
+fn assert_word(rt: &impl Abort, image: &Image, place: usize, word: u64) {
+    assert_eq!(rt; image.words.get(place), Some(&word), "the word at {place}");
+}
+
 #[test]
 fn a_fresh_image_has_one_free_segment_in_each_space(rt: HostRuntime) -> Result<(), OutOfMemory> {
     let shape = Shape {
@@ -125,32 +131,22 @@ fn a_fresh_image_has_one_free_segment_in_each_space(rt: HostRuntime) -> Result<(
         objects: 4,
     };
     let image = Image::fresh(rt.alloc(), shape)?;
-    assert_eq!(rt; image.shape, shape);
     assert_eq!(rt; image.words.len(), 76);
-    assert_eq!(rt;
-        image.words[0],
-        0x0000_0003_0000_0001,
-        "the external freelist"
-    );
-    assert_eq!(rt;
-        image.words[2],
-        0x0000_0003_0000_0001,
-        "the trusted freelist"
-    );
-    assert_eq!(rt; image.words[3], 0, "no object");
-    assert_eq!(rt; image.words[64], 0, "external entry 0");
-    assert_eq!(rt; image.words[65], 0x0100_0000_0000_0002);
-    assert_eq!(rt; image.words[67], 0x0100_0000_0000_0004);
-    assert_eq!(rt;
-        image.words[68],
-        0x0200_0000_0000_0000,
-        "the second segment"
-    );
-    assert_eq!(rt; image.words[72], 0, "trusted entry 0");
-    assert_eq!(rt; image.words[75], 0x0100_0000_0000_0004);
+    // the freelists, and no object
+    assert_word(&rt, &image, 0, 0x0000_0003_0000_0001);
+    assert_word(&rt, &image, 2, 0x0000_0003_0000_0001);
+    assert_word(&rt, &image, 3, 0);
+    // external entry 0, the first free one, the last one of the first segment, and the second segment
+    assert_word(&rt, &image, 64, 0);
+    assert_word(&rt, &image, 65, 0x0100_0000_0000_0002);
+    assert_word(&rt, &image, 67, 0x0100_0000_0000_0004);
+    assert_word(&rt, &image, 68, 0x0200_0000_0000_0000);
+    // trusted entry 0, and the last one
+    assert_word(&rt, &image, 72, 0);
+    assert_word(&rt, &image, 75, 0x0100_0000_0000_0004);
     assert_eq!(rt; image.vars.len(), 128);
-    assert_eq!(rt; image.vars[127], 0);
+    assert_eq!(rt; image.vars.get(127), Some(&0));
     assert_eq!(rt; image.pending.len(), 8);
-    assert_eq!(rt; image.pending[7], None);
+    assert_eq!(rt; image.pending.get(7), Some(&None));
     Ok(())
 }

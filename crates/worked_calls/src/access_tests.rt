@@ -8,6 +8,7 @@ use access_steps::{forge, init, load, name, raw_load, raw_store, store, swap};
 use entry_base::{Session, Shared};
 use plain_table::{OutOfMemory, Reply};
 use std::process::Abort;
+use worked_asserts::assert_is;
 use worked_tables::{close_both, open_fresh};
 
 /// Calls by a field that is not bound, and by a word of index 0, which answer null.
@@ -17,17 +18,17 @@ fn access_null(rt: &impl Abort, shared: &Shared, s: &mut Session)
     ensures same { SameCaller (view s.old) (view s.new) }
 {
     let named = name(shared, s, 0, 0);
-    assert_eq!(rt; named, Reply::Word(0));
+    assert_is(rt, named, Reply::Word(0));
     let loaded = load(shared, s, 0, 0, only(rt, 0x0f));
-    assert_eq!(rt; loaded, Reply::Null);
+    assert_is(rt, loaded, Reply::Null);
     let stored = store(shared, s, 0, 0, only(rt, 0x0f), 0xc1);
-    assert_eq!(rt; stored, Reply::Null);
+    assert_is(rt, stored, Reply::Null);
     let swapped = swap(shared, s, 0, 0, only(rt, 0x0f), 0xc1);
-    assert_eq!(rt; swapped, Reply::Null);
+    assert_is(rt, swapped, Reply::Null);
     let raw = raw_load(shared, s, 0xffff, only(rt, 0x0f));
-    assert_eq!(rt; raw, Reply::Null);
+    assert_is(rt, raw, Reply::Null);
     let raw = raw_store(shared, s, 0, only(rt, 0x0f), 0xc1);
-    assert_eq!(rt; raw, Reply::Null);
+    assert_is(rt, raw, Reply::Null);
 }
 
 /// Calls by field 0, whose cell has another tag than the one that they ask.
@@ -37,17 +38,17 @@ fn access_under_another_tag(rt: &impl Abort, shared: &Shared, s: &mut Session)
     ensures same { SameCaller (view s.old) (view s.new) }
 {
     let loaded = load(shared, s, 0, 0, only(rt, 0x17));
-    assert_eq!(rt; loaded, Reply::Fault);
+    assert_is(rt, loaded, Reply::Fault);
     let stored = store(shared, s, 0, 0, only(rt, 0x17), 0xc1);
-    assert_eq!(rt; stored, Reply::Fault);
+    assert_is(rt, stored, Reply::Fault);
     let swapped = swap(shared, s, 0, 0, only(rt, 0x17), 0xc1);
-    assert_eq!(rt; swapped, Reply::Fault);
+    assert_is(rt, swapped, Reply::Fault);
     let raw = raw_load(shared, s, 0x0001_0000, only(rt, 0x17));
-    assert_eq!(rt; raw, Reply::Fault);
+    assert_is(rt, raw, Reply::Fault);
     let raw = raw_store(shared, s, 0x0001_0000, only(rt, 0x17), 0xc1);
-    assert_eq!(rt; raw, Reply::Fault);
+    assert_is(rt, raw, Reply::Fault);
     let taken = init(shared, s, 0, 0, tag(rt, 0x17), 0xc1);
-    assert_eq!(rt; taken, Reply::Taken(0x0001_0000));
+    assert_is(rt, taken, Reply::Taken(0x0001_0000));
 }
 
 /// Calls by field 0 under the tag of its cell: each finds what the one before it left.
@@ -57,15 +58,15 @@ fn access_under_the_tag(rt: &impl Abort, shared: &Shared, s: &mut Session)
     ensures same { SameCaller (view s.old) (view s.new) }
 {
     let stored = store(shared, s, 0, 0, only(rt, 0x0f), 0xc1);
-    assert_eq!(rt; stored, Reply::Ok);
+    assert_is(rt, stored, Reply::Ok);
     let swapped = swap(shared, s, 0, 0, only(rt, 0x0f), 0xc2);
-    assert_eq!(rt; swapped, Reply::Value(0xc1));
+    assert_is(rt, swapped, Reply::Value(0xc1));
     let loaded = load(shared, s, 0, 0, only(rt, 0x0f));
-    assert_eq!(rt; loaded, Reply::Value(0xc2));
+    assert_is(rt, loaded, Reply::Value(0xc2));
     let raw = raw_store(shared, s, 0x0001_0000, only(rt, 0x0f), 0xffff_ffff_ffff);
-    assert_eq!(rt; raw, Reply::Ok);
+    assert_is(rt, raw, Reply::Ok);
     let raw = raw_load(shared, s, 0x0001_ffff, only(rt, 0x0f));
-    assert_eq!(rt; raw, Reply::Value(0xffff_ffff_ffff));
+    assert_is(rt, raw, Reply::Value(0xffff_ffff_ffff));
 }
 
 /// Forges words into field 0: a stranger's cell is met under its own tag alone, and a word past the limit meets none.
@@ -75,15 +76,15 @@ fn access_forged(rt: &impl Abort, shared: &Shared, s: &mut Session)
     ensures same { SameCaller (view s.old) (view s.new) }
 {
     let forged = forge(shared, s, 0, 0, 0x0002_0000);
-    assert_eq!(rt; forged, Reply::Ok);
+    assert_is(rt, forged, Reply::Ok);
     let loaded = load(shared, s, 0, 0, only(rt, 0x17));
-    assert_eq!(rt; loaded, Reply::Value(0xc1));
+    assert_is(rt, loaded, Reply::Value(0xc1));
     let forged = forge(shared, s, 0, 0, 0xffff_ffff);
-    assert_eq!(rt; forged, Reply::Ok);
+    assert_is(rt, forged, Reply::Ok);
     let named = name(shared, s, 0, 0);
-    assert_eq!(rt; named, Reply::Word(0xffff_ffff));
+    assert_is(rt, named, Reply::Word(0xffff_ffff));
     let loaded = load(shared, s, 0, 0, only(rt, 0x0f));
-    assert_eq!(rt; loaded, Reply::Fault);
+    assert_is(rt, loaded, Reply::Fault);
 }
 
 #[test]
@@ -97,9 +98,9 @@ fn each_answer_of_the_calls_by_external_fields(rt: HostRuntime) -> Result<(), Ou
     access_under_the_tag(&rt, &shared, &mut s);
     access_forged(&rt, &shared, &mut s);
     let image = close_both(shared, first, s);
-    assert_eq!(rt; word_at(&rt, &image, 0), 0x1_0000_0003);
-    assert_eq!(rt; word_at(&rt, &image, 37), 0xffff_ffff);
-    assert_eq!(rt; word_at(&rt, &image, 41), 0x400f_ffff_ffff_ffff);
-    assert_eq!(rt; word_at(&rt, &image, 42), 0x4017_0000_0000_00c1);
+    assert_is(&rt, word_at(&rt, &image, 0), 0x1_0000_0003);
+    assert_is(&rt, word_at(&rt, &image, 37), 0xffff_ffff);
+    assert_is(&rt, word_at(&rt, &image, 41), 0x400f_ffff_ffff_ffff);
+    assert_is(&rt, word_at(&rt, &image, 42), 0x4017_0000_0000_00c1);
     Ok(())
 }

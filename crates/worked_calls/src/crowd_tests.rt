@@ -28,6 +28,7 @@ use std::alloc::Global;
 use std::process::Abort;
 use std::thread::{Threads, join};
 use trusted_steps::{publish, share, tnew};
+use worked_asserts::assert_is;
 use worked_tables::{close_five, close_three, open, open_fresh};
 
 /// Four external segments of four entries, and eight objects: the external entries stand from word 96 on.
@@ -47,11 +48,11 @@ fn make_common(rt: &impl Abort, shared: &Shared, s: &mut Session)
 {
     make(rt, shared, s, 1, 0);
     let filled = tnew(shared, s, 1, tag(rt, 0x0f), 0xc0);
-    assert_eq!(rt; filled, Reply::Ok);
+    assert_is(rt, filled, Reply::Ok);
     let published = publish(shared, s, 1);
-    assert_eq!(rt; published, Reply::Ok);
+    assert_is(rt, published, Reply::Ok);
     let linked = link_global(shared, s, 0, Some(1));
-    assert_eq!(rt; linked, Reply::Ok);
+    assert_is(rt, linked, Reply::Ok);
 }
 
 /// Fetches the common object into variable 1 and makes an own one, whose number is `own`, in variable 0.
@@ -62,7 +63,7 @@ fn make_own(rt: &impl Abort, shared: &Shared, s: &mut Session, own: u32)
     ensures same { SameCaller (view s.old) (view s.new) }
 {
     let fetched = fetch_global(shared, s, 1, 0);
-    assert_eq!(rt; fetched, Reply::Obj(0));
+    assert_is(rt, fetched, Reply::Obj(0));
     make(rt, shared, s, 0, own);
 }
 
@@ -98,11 +99,11 @@ fn link_and_share(rt: &impl Abort, shared: &Shared, s: &mut Session)
     ensures same { SameCaller (view s.old) (view s.new) }
 {
     let to_common = link(shared, s, 0, 0, Some(1));
-    assert_eq!(rt; to_common.reply, Reply::Ok);
+    assert_is(rt, to_common.reply, Reply::Ok);
     let to_own = link(shared, s, 1, 0, Some(0));
-    assert_eq!(rt; to_own.reply, Reply::Ok);
+    assert_is(rt, to_own.reply, Reply::Ok);
     let bound = share(shared, s, 1, 0);
-    assert_eq!(rt; bound, Reply::Ok);
+    assert_is(rt, bound, Reply::Ok);
 }
 
 /// The work of a thread, whose cells have values from its number on.
@@ -150,16 +151,18 @@ fn assert_work(rt: &impl Abort, image: &Image, number: usize, work: Work)
 {
     let first = 32 + 8 * (number + 1);
     let own = word_at(rt, image, first + 5);
-    assert_eq!(rt;
+    assert_is(
+        rt,
         entry_of(rt, image, own),
-        0x400f_0000_0000_00c0 + number as u64
+        0x400f_0000_0000_00c0 + number as u64,
     );
-    assert_eq!(rt;
+    assert_is(
+        rt,
         entry_of(rt, image, work.word as u64),
-        0x4017_0000_0000_00e0 + number as u64
+        0x4017_0000_0000_00e0 + number as u64,
     );
-    assert_eq!(rt; word_at(rt, image, first + 1), 1);
-    assert_eq!(rt; word_at(rt, image, first + 7), 0x1_0000);
+    assert_is(rt, word_at(rt, image, first + 1), 1);
+    assert_is(rt, word_at(rt, image, first + 7), 0x1_0000);
 }
 
 /// Whether the thread of a number won the common field: then the field's cell is its own, and else it was answered the field's word.
@@ -169,10 +172,14 @@ fn won(rt: &impl Abort, image: &Image, number: u64, common: Reply) -> u64
 {
     let word = word_at(rt, image, 37);
     if common == Reply::Ok {
-        assert_eq!(rt; entry_of(rt, image, word), 0x400f_0000_0000_00d0 + number);
+        assert_is(
+            rt,
+            entry_of(rt, image, word),
+            0x400f_0000_0000_00d0 + number,
+        );
         return 1;
     }
-    assert_eq!(rt; common, Reply::Taken((word % (1 << 32)) as u32));
+    assert_is(rt, common, Reply::Taken((word % (1 << 32)) as u32));
     0
 }
 
@@ -191,7 +198,7 @@ fn assert_both(rt: &impl Abort, image: &Image, number: u64, here: Work, there: W
 fn assert_whole(rt: &impl Abort, image: &Image, taken: usize, free: u64, last: u64)
     requires few { taken < 16 }
 {
-    assert_eq!(rt; word_at(rt, image, 0), free);
+    assert_is(rt, word_at(rt, image, 0), free);
     for index in 1..=taken {
         let high = word_at(rt, image, 96 + index) / (1 << 48);
         assert!(rt; high == 0x400f || high == 0x4017);
@@ -209,7 +216,7 @@ fn two_threads_work_at_once(rt: HostRuntime) -> Result<(), OutOfMemory> {
     let ((one, here), (two, there)) = both_work(&rt, &shared, (one, two), 0);
     let image = close_three(shared, first, one, two);
     assert_whole(&rt, &image, 6, 0x1_0000_0007, 3);
-    assert_eq!(rt; assert_both(&rt, &image, 0, here, there), 1);
+    assert_is(&rt, assert_both(&rt, &image, 0, here, there), 1);
     Ok(())
 }
 
@@ -261,7 +268,7 @@ fn assert_four<R: Threads + Sync + Abort>(
     assert_whole(rt, &image, 12, 0x3_0000_000d, 5);
     let low = assert_both(rt, &image, 0, first_work, second_work);
     let high = assert_both(rt, &image, 2, third_work, fourth_work);
-    assert_eq!(rt; low + high, 1);
+    assert_is(rt, low + high, 1);
     Ok(image)
 }
 
@@ -269,7 +276,7 @@ fn assert_four<R: Threads + Sync + Abort>(
 fn four_threads_work_at_once(rt: HostRuntime) -> Result<(), OutOfMemory> {
     let image = image_of_a_crowd(&rt, rt.alloc())?;
     let after = assert_four(&rt, rt.alloc(), image)?;
-    assert_eq!(rt; word_at(&rt, &after, 4), 0);
+    assert_is(&rt, word_at(&rt, &after, 4), 0);
     Ok(())
 }
 
@@ -281,7 +288,7 @@ fn crowd_in_a_cycle(rt: &impl Abort, alloc: Global) -> Result<Image, OutOfMemory
     let image = image_of_a_crowd(rt, alloc)?;
     let (image, area) = begin_on(rt, alloc, image, CROWD, Policy::Never)?;
     assert!(rt; area.start().is_none());
-    assert_eq!(rt; word_at(rt, &image, 113), 0x000f_0000_0000_00c0);
+    assert_is(rt, word_at(rt, &image, 113), 0x000f_0000_0000_00c0);
     Ok(image)
 }
 
@@ -290,7 +297,7 @@ fn crowd_in_a_cycle(rt: &impl Abort, alloc: Global) -> Result<Image, OutOfMemory
 fn four_threads_work_and_mark_at_once_in_a_cycle(rt: HostRuntime) -> Result<(), OutOfMemory> {
     let image = crowd_in_a_cycle(&rt, rt.alloc())?;
     let after = assert_four(&rt, rt.alloc(), image)?;
-    assert_eq!(rt; word_at(&rt, &after, 4), 1);
-    assert_eq!(rt; word_at(&rt, &after, 113), 0x400f_0000_0000_00c0);
+    assert_is(&rt, word_at(&rt, &after, 4), 1);
+    assert_is(&rt, word_at(&rt, &after, 113), 0x400f_0000_0000_00c0);
     Ok(())
 }

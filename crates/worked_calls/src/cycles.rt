@@ -11,6 +11,7 @@ use plain_table::{OutOfMemory, Policy, SweepReport};
 use std::alloc::Global;
 use std::process::Abort;
 use sweeper::{Area, begin, late_mark, sweep};
+use worked_asserts::assert_is;
 
 /// Begins a cycle on an image of known sizes outside a cycle.
 pub(crate) fn begin_on(
@@ -84,9 +85,9 @@ fn assert_one_owed(rt: &impl Abort, image: &Image)
     ensures count { slice_index image.now.words.items 3 ≡ 1 }
     ensures header { slice_index image.now.words.items 32 ≡ 1 }
 {
-    assert_eq!(rt; word_at(rt, image, 4), 1);
-    assert_eq!(rt; word_at(rt, image, 3), 1);
-    assert_eq!(rt; word_at(rt, image, 32), 1);
+    assert_is(rt, word_at(rt, image, 4), 1);
+    assert_is(rt, word_at(rt, image, 3), 1);
+    assert_is(rt, word_at(rt, image, 32), 1);
 }
 
 /// Finishes a cycle after a phase, on an image of known sizes, whose one object is shaded and not scanned.

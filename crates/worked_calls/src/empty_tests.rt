@@ -10,6 +10,7 @@ use graph_steps::{fetch, link, link_global};
 use plain_table::{OutOfMemory, Reply};
 use std::process::Abort;
 use trusted_steps::{publish, share, tload, tnew};
+use worked_asserts::assert_is;
 use worked_tables::{close_both, open};
 
 /// Calls by external fields of what variable 1 holds, which is nothing.
@@ -19,17 +20,17 @@ fn access_nothing(rt: &impl Abort, shared: &Shared, s: &mut Session)
     ensures same { SameCaller (view s.old) (view s.new) }
 {
     let named = name(shared, s, 1, 0);
-    assert_eq!(rt; named, Reply::Empty);
+    assert_is(rt, named, Reply::Empty);
     let forged = forge(shared, s, 1, 1, 0xffff_ffff);
-    assert_eq!(rt; forged, Reply::Empty);
+    assert_is(rt, forged, Reply::Empty);
     let loaded = load(shared, s, 1, 0, only(rt, 0x0f));
-    assert_eq!(rt; loaded, Reply::Empty);
+    assert_is(rt, loaded, Reply::Empty);
     let stored = store(shared, s, 1, 1, only(rt, 0x0f), 0xc1);
-    assert_eq!(rt; stored, Reply::Empty);
+    assert_is(rt, stored, Reply::Empty);
     let swapped = swap(shared, s, 1, 0, only(rt, 0x0f), 0xc1);
-    assert_eq!(rt; swapped, Reply::Empty);
+    assert_is(rt, swapped, Reply::Empty);
     let inited = init(shared, s, 1, 1, tag(rt, 0x0f), 0xc1);
-    assert_eq!(rt; inited, Reply::Empty);
+    assert_is(rt, inited, Reply::Empty);
 }
 
 /// Calls by references of what variable 1 holds, which is nothing, and links to it.
@@ -39,15 +40,15 @@ fn link_nothing(rt: &impl Abort, shared: &Shared, s: &mut Session)
     ensures same { SameCaller (view s.old) (view s.new) }
 {
     let from = link(shared, s, 1, 0, Some(0));
-    assert_eq!(rt; from.reply, Reply::Empty);
-    assert_eq!(rt; from.shaded, None);
+    assert_is(rt, from.reply, Reply::Empty);
+    assert_is(rt, from.shaded, None);
     let to = link(shared, s, 0, 3, Some(1));
-    assert_eq!(rt; to.reply, Reply::Empty);
-    assert_eq!(rt; to.shaded, None);
+    assert_is(rt, to.reply, Reply::Empty);
+    assert_is(rt, to.shaded, None);
     let global = link_global(shared, s, 1, Some(1));
-    assert_eq!(rt; global, Reply::Empty);
+    assert_is(rt, global, Reply::Empty);
     let fetched = fetch(shared, s, 0, 1, 0);
-    assert_eq!(rt; fetched, Reply::Empty);
+    assert_is(rt, fetched, Reply::Empty);
 }
 
 /// Calls by the trusted field of what variable 1 holds, which is nothing.
@@ -57,15 +58,15 @@ fn share_nothing(rt: &impl Abort, shared: &Shared, s: &mut Session)
     ensures same { SameCaller (view s.old) (view s.new) }
 {
     let filled = tnew(shared, s, 1, tag(rt, 0x0f), 0xc1);
-    assert_eq!(rt; filled, Reply::Empty);
+    assert_is(rt, filled, Reply::Empty);
     let published = publish(shared, s, 1);
-    assert_eq!(rt; published, Reply::Empty);
+    assert_is(rt, published, Reply::Empty);
     let loaded = tload(shared, s, 1, only(rt, 0x0f));
-    assert_eq!(rt; loaded, Reply::Empty);
+    assert_is(rt, loaded, Reply::Empty);
     let from = share(shared, s, 1, 0);
-    assert_eq!(rt; from, Reply::Empty);
+    assert_is(rt, from, Reply::Empty);
     let to = share(shared, s, 0, 1);
-    assert_eq!(rt; to, Reply::Empty);
+    assert_is(rt, to, Reply::Empty);
 }
 
 #[test]
@@ -76,15 +77,15 @@ fn calls_by_a_variable_that_holds_nothing_change_nothing(
     let opened = image_with_a_common_object(&rt, rt.alloc())?;
     let (shared, mut first) = open(rt.alloc(), opened)?;
     let mut s = first.split(&shared, 0, &[]);
-    assert_eq!(rt; s.held(0), Some(0));
-    assert_eq!(rt; s.held(1), None);
+    assert_is(&rt, s.held(0), Some(0));
+    assert_is(&rt, s.held(1), None);
     access_nothing(&rt, &shared, &mut s);
     link_nothing(&rt, &shared, &mut s);
     share_nothing(&rt, &shared, &mut s);
-    assert_eq!(rt; s.held(0), Some(0));
+    assert_is(&rt, s.held(0), Some(0));
     let after = close_both(shared, first, s);
-    assert_eq!(rt; after.words.as_slice(), before.words.as_slice());
-    assert_eq!(rt; after.vars.as_slice(), before.vars.as_slice());
-    assert_eq!(rt; after.pending.as_slice(), before.pending.as_slice());
+    assert_is(&rt, after.words.as_slice(), before.words.as_slice());
+    assert_is(&rt, after.vars.as_slice(), before.vars.as_slice());
+    assert_is(&rt, after.pending.as_slice(), before.pending.as_slice());
     Ok(())
 }

@@ -13,6 +13,7 @@ use space_steps::{Taken, take};
 use std::marker::Brand;
 use std::process::Abort;
 use std::sync::ledger::{Blank, Ledger};
+use worked_asserts::assert_is;
 
 /// Makes object `count` in a variable.
 pub(crate) fn make(rt: &impl Abort, shared: &Shared, s: &mut Session, var: u32, count: u32)
@@ -23,7 +24,7 @@ pub(crate) fn make(rt: &impl Abort, shared: &Shared, s: &mut Session, var: u32, 
     ensures same { SameCaller (view s.old) (view s.new) }
 {
     let made = new_object(shared, s, var);
-    assert_eq!(rt; made, Reply::Obj(count));
+    assert_is(rt, made, Reply::Obj(count));
 }
 
 /// Inits external field `f` of the object of a variable, which is bound then.
@@ -42,7 +43,7 @@ pub(crate) fn bind(
     ensures same { SameCaller (view s.old) (view s.new) }
 {
     let said = init(shared, s, place.0, place.1, tag(rt, byte), value);
-    assert_eq!(rt; said, Reply::Ok);
+    assert_is(rt, said, Reply::Ok);
 }
 
 /// Takes an external index of a table without an area and fills it, with no field bound to it. The answer is its word.
@@ -77,7 +78,7 @@ fn put_counted<L: Ledger>(
     ensures caller { IsOf shared.now s.new }
     ensures same { SameCaller (view s.old) (view s.new) }
 {
-    assert_eq!(rt; s.area(), None);
+    assert_is(rt, s.area(), None);
     let mut steps = Steps::<L>::start(blank);
     let Taken::At(ticket) = take(shared, s, Space::External, &mut steps) else {
         panic!(rt; "no external index is free");

@@ -10,6 +10,7 @@ use entry_base::{Session, Shared};
 use graph_steps::new_object;
 use plain_table::{OutOfMemory, Reply};
 use std::process::Abort;
+use worked_asserts::assert_is;
 use worked_tables::{close_both, close_whole, open, open_fresh};
 
 /// Makes an object and a cell that its field 0 names, loads the cell under its tag and under another one, and names it.
@@ -22,11 +23,11 @@ fn call_first_path(rt: &impl Abort, shared: &Shared, s: &mut Session)
     make(rt, shared, s, 0, 0);
     bind(rt, shared, s, (0, 0), 0x0f, 0xc0);
     let found = load(shared, s, 0, 0, only(rt, 0x0f));
-    assert_eq!(rt; found, Reply::Value(0xc0));
+    assert_is(rt, found, Reply::Value(0xc0));
     let refused = load(shared, s, 0, 0, only(rt, 0x17));
-    assert_eq!(rt; refused, Reply::Fault);
+    assert_is(rt, refused, Reply::Fault);
     let named = name(shared, s, 0, 0);
-    assert_eq!(rt; named, Reply::Word(0x0001_0000));
+    assert_is(rt, named, Reply::Word(0x0001_0000));
 }
 
 #[test]
@@ -35,9 +36,9 @@ fn a_resource_is_loaded_under_its_tag_alone(rt: HostRuntime) -> Result<(), OutOf
     let mut s = first.split(&shared, 0, &[]);
     call_first_path(&rt, &shared, &mut s);
     let image = close_both(shared, first, s);
-    assert_eq!(rt; word_at(&rt, &image, 0), 0x2_0000_0002);
-    assert_eq!(rt; word_at(&rt, &image, 37), 0x0001_0000);
-    assert_eq!(rt; word_at(&rt, &image, 41), 0x400f_0000_0000_00c0);
+    assert_is(&rt, word_at(&rt, &image, 0), 0x2_0000_0002);
+    assert_is(&rt, word_at(&rt, &image, 37), 0x0001_0000);
+    assert_is(&rt, word_at(&rt, &image, 41), 0x400f_0000_0000_00c0);
     Ok(())
 }
 
@@ -59,19 +60,19 @@ fn fill_space(rt: &impl Abort, shared: &Shared, s: &mut Session)
 fn an_init_finds_the_space_full(rt: HostRuntime) -> Result<(), OutOfMemory> {
     let (shared, first) = open_fresh(rt.alloc(), TWO)?;
     let before = close_whole(shared, first);
-    assert_eq!(rt; word_at(&rt, &before, 0), 0x3_0000_0001);
+    assert_is(&rt, word_at(&rt, &before, 0), 0x3_0000_0001);
     let (shared, mut first) = open(rt.alloc(), before)?;
     let mut s = first.split(&shared, 0, &[]);
     fill_space(&rt, &shared, &mut s);
     let image = close_both(shared, first, s);
-    assert_eq!(rt; word_at(&rt, &image, 0), 4);
+    assert_is(&rt, word_at(&rt, &image, 0), 4);
     let (shared, mut first) = open(rt.alloc(), image)?;
     let mut s = first.split(&shared, 0, &[]);
     let full = init(&shared, &mut s, 1, 1, tag(&rt, 0x0f), 0xc3);
-    assert_eq!(rt; full, Reply::Full);
+    assert_is(&rt, full, Reply::Full);
     let after = close_both(shared, first, s);
-    assert_eq!(rt; word_at(&rt, &after, 0), 4);
-    assert_eq!(rt; word_at(&rt, &after, 46), 0);
+    assert_is(&rt, word_at(&rt, &after, 0), 4);
+    assert_is(&rt, word_at(&rt, &after, 46), 0);
     Ok(())
 }
 
@@ -84,9 +85,9 @@ fn fill_heap(rt: &impl Abort, shared: &Shared, s: &mut Session)
 {
     make(rt, shared, s, 0, 0);
     let full = new_object(shared, s, 1);
-    assert_eq!(rt; full, Reply::HeapFull);
+    assert_is(rt, full, Reply::HeapFull);
     let empty = load(shared, s, 1, 0, only(rt, 0x0f));
-    assert_eq!(rt; empty, Reply::Empty);
+    assert_is(rt, empty, Reply::Empty);
 }
 
 #[test]
@@ -95,8 +96,8 @@ fn a_second_object_finds_the_heap_full(rt: HostRuntime) -> Result<(), OutOfMemor
     let mut s = first.split(&shared, 0, &[]);
     fill_heap(&rt, &shared, &mut s);
     let image = close_both(shared, first, s);
-    assert_eq!(rt; word_at(&rt, &image, 3), 1);
-    assert_eq!(rt; image.vars.as_slice()[0], 1);
-    assert_eq!(rt; image.vars.as_slice()[1], 0);
+    assert_is(&rt, word_at(&rt, &image, 3), 1);
+    assert_is(&rt, image.vars.as_slice()[0], 1);
+    assert_is(&rt, image.vars.as_slice()[1], 0);
     Ok(())
 }

@@ -11,6 +11,7 @@ use entry_base::{Session, Shared};
 use graph_steps::{drop_var, fetch, fetch_global, link, link_global, shade};
 use plain_table::{OutOfMemory, Policy, Reply};
 use std::process::Abort;
+use worked_asserts::assert_is;
 use worked_tables::{close_both, open, open_fresh};
 
 /// Links reference 3 of object 0 to object 1 and back to nothing, and fetches both. No link shades anything outside a cycle.
@@ -20,16 +21,16 @@ fn link_and_unlink(rt: &impl Abort, shared: &Shared, s: &mut Session)
     ensures same { SameCaller (view s.old) (view s.new) }
 {
     let linked = link(shared, s, 0, 3, Some(1));
-    assert_eq!(rt; linked.reply, Reply::Ok);
-    assert_eq!(rt; linked.shaded, None);
+    assert_is(rt, linked.reply, Reply::Ok);
+    assert_is(rt, linked.shaded, None);
     let fetched = fetch(shared, s, 15, 0, 3);
-    assert_eq!(rt; fetched, Reply::Obj(1));
-    assert_eq!(rt; s.held(15), Some(1));
+    assert_is(rt, fetched, Reply::Obj(1));
+    assert_is(rt, s.held(15), Some(1));
     let unlinked = link(shared, s, 0, 3, None);
-    assert_eq!(rt; unlinked.reply, Reply::Ok);
+    assert_is(rt, unlinked.reply, Reply::Ok);
     let fetched = fetch(shared, s, 15, 0, 3);
-    assert_eq!(rt; fetched, Reply::Nothing);
-    assert_eq!(rt; s.held(15), None);
+    assert_is(rt, fetched, Reply::Nothing);
+    assert_is(rt, s.held(15), None);
 }
 
 /// Links a global to object 1 and to nothing, and fetches both.
@@ -40,14 +41,14 @@ fn link_a_global(rt: &impl Abort, shared: &Shared, s: &mut Session)
     ensures same { SameCaller (view s.old) (view s.new) }
 {
     let linked = link_global(shared, s, 15, Some(1));
-    assert_eq!(rt; linked, Reply::Ok);
+    assert_is(rt, linked, Reply::Ok);
     let fetched = fetch_global(shared, s, 2, 15);
-    assert_eq!(rt; fetched, Reply::Obj(1));
+    assert_is(rt, fetched, Reply::Obj(1));
     let unlinked = link_global(shared, s, 15, None);
-    assert_eq!(rt; unlinked, Reply::Ok);
+    assert_is(rt, unlinked, Reply::Ok);
     let fetched = fetch_global(shared, s, 2, 15);
-    assert_eq!(rt; fetched, Reply::Nothing);
-    assert_eq!(rt; s.held(2), None);
+    assert_is(rt, fetched, Reply::Nothing);
+    assert_is(rt, s.held(2), None);
 }
 
 #[test]
@@ -59,17 +60,17 @@ fn each_answer_of_the_calls_on_objects_outside_a_cycle(rt: HostRuntime) -> Resul
     link_and_unlink(&rt, &shared, &mut s);
     link_a_global(&rt, &shared, &mut s);
     let dropped = drop_var(&shared, &mut s, 0);
-    assert_eq!(rt; dropped, Reply::Ok);
-    assert_eq!(rt; s.held(0), None);
+    assert_is(&rt, dropped, Reply::Ok);
+    assert_is(&rt, s.held(0), None);
     let dropped = drop_var(&shared, &mut s, 0);
-    assert_eq!(rt; dropped, Reply::Ok);
+    assert_is(&rt, dropped, Reply::Ok);
     let image = close_both(shared, first, s);
-    assert_eq!(rt; word_at(&rt, &image, 3), 2);
-    assert_eq!(rt; word_at(&rt, &image, 31), 0);
-    assert_eq!(rt; word_at(&rt, &image, 36), 0);
-    assert_eq!(rt; image.vars.as_slice()[0], 0);
-    assert_eq!(rt; image.vars.as_slice()[1], 2);
-    assert_eq!(rt; image.vars.as_slice()[2], 0);
+    assert_is(&rt, word_at(&rt, &image, 3), 2);
+    assert_is(&rt, word_at(&rt, &image, 31), 0);
+    assert_is(&rt, word_at(&rt, &image, 36), 0);
+    assert_is(&rt, image.vars.as_slice()[0], 0);
+    assert_is(&rt, image.vars.as_slice()[1], 2);
+    assert_is(&rt, image.vars.as_slice()[2], 0);
     Ok(())
 }
 
@@ -83,9 +84,9 @@ fn make_linked(rt: &impl Abort, shared: &Shared, s: &mut Session)
     make(rt, shared, s, 0, 0);
     make(rt, shared, s, 1, 1);
     let linked = link(shared, s, 0, 0, Some(1));
-    assert_eq!(rt; linked.reply, Reply::Ok);
+    assert_is(rt, linked.reply, Reply::Ok);
     let dropped = drop_var(shared, s, 1);
-    assert_eq!(rt; dropped, Reply::Ok);
+    assert_is(rt, dropped, Reply::Ok);
 }
 
 /// Fetches object 1 in a cycle, which is white, and links to it: the first link shades it, and the second one finds it shaded.
@@ -95,16 +96,16 @@ fn link_a_white_object(rt: &impl Abort, shared: &Shared, s: &mut Session)
     ensures same { SameCaller (view s.old) (view s.new) }
 {
     let fetched = fetch(shared, s, 1, 0, 0);
-    assert_eq!(rt; fetched, Reply::Obj(1));
+    assert_is(rt, fetched, Reply::Obj(1));
     let white = link(shared, s, 0, 1, Some(1));
-    assert_eq!(rt; white.reply, Reply::Ok);
-    assert_eq!(rt; white.shaded, Some(1));
+    assert_is(rt, white.reply, Reply::Ok);
+    assert_is(rt, white.shaded, Some(1));
     let grey = link(shared, s, 0, 2, Some(1));
-    assert_eq!(rt; grey.reply, Reply::Ok);
-    assert_eq!(rt; grey.shaded, None);
+    assert_is(rt, grey.reply, Reply::Ok);
+    assert_is(rt, grey.shaded, None);
     let nothing = link(shared, s, 0, 2, None);
-    assert_eq!(rt; nothing.reply, Reply::Ok);
-    assert_eq!(rt; nothing.shaded, None);
+    assert_is(rt, nothing.reply, Reply::Ok);
+    assert_is(rt, nothing.shaded, None);
 }
 
 /// Shades object 1, which variable 1 holds in a cycle: it was white at the first shading alone.
@@ -115,12 +116,12 @@ fn shade_twice(rt: &impl Abort, shared: &Shared, s: &mut Session)
     ensures same { SameCaller (view s.old) (view s.new) }
 {
     let fetched = fetch(shared, s, 1, 0, 0);
-    assert_eq!(rt; fetched, Reply::Obj(1));
-    assert_eq!(rt; s.held(1), Some(1));
+    assert_is(rt, fetched, Reply::Obj(1));
+    assert_is(rt, s.held(1), Some(1));
     let white = shade(shared, s, 1);
-    assert_eq!(rt; white, true);
+    assert_is(rt, white, true);
     let again = shade(shared, s, 1);
-    assert_eq!(rt; again, false);
+    assert_is(rt, again, false);
 }
 
 #[test]
@@ -132,10 +133,10 @@ fn a_shading_says_whether_the_object_was_white(rt: HostRuntime) -> Result<(), Ou
     let (image, _) = begin_on(&rt, rt.alloc(), image, TWO, Policy::Never)?;
     let (shared, mut first) = open(rt.alloc(), image)?;
     let mut s = first.split(&shared, 0, &[]);
-    assert_eq!(rt; s.in_cycle(), true);
+    assert_is(&rt, s.in_cycle(), true);
     shade_twice(&rt, &shared, &mut s);
     let image = close_both(shared, first, s);
-    assert_eq!(rt; word_at(&rt, &image, 40), 1);
+    assert_is(&rt, word_at(&rt, &image, 40), 1);
     Ok(())
 }
 
@@ -147,14 +148,14 @@ fn a_link_in_a_cycle_says_what_it_shaded(rt: HostRuntime) -> Result<(), OutOfMem
     let image = close_both(shared, first, s);
     let (image, area) = begin_on(&rt, rt.alloc(), image, TWO, Policy::Never)?;
     assert!(rt; area.roots() == [0].as_slice());
-    assert_eq!(rt; word_at(&rt, &image, 40), 0);
+    assert_is(&rt, word_at(&rt, &image, 40), 0);
     let (shared, mut first) = open(rt.alloc(), image)?;
     let mut s = first.split(&shared, 0, &[]);
-    assert_eq!(rt; s.in_cycle(), true);
+    assert_is(&rt, s.in_cycle(), true);
     link_a_white_object(&rt, &shared, &mut s);
     let image = close_both(shared, first, s);
-    assert_eq!(rt; word_at(&rt, &image, 34), 2);
-    assert_eq!(rt; word_at(&rt, &image, 35), 0);
-    assert_eq!(rt; word_at(&rt, &image, 40), 1);
+    assert_is(&rt, word_at(&rt, &image, 34), 2);
+    assert_is(&rt, word_at(&rt, &image, 35), 0);
+    assert_is(&rt, word_at(&rt, &image, 40), 1);
     Ok(())
 }

@@ -15,6 +15,7 @@ use plain_table::{OutOfMemory, Reply};
 use std::alloc::Global;
 use std::process::Abort;
 use std::thread::{Threads, join};
+use worked_asserts::assert_is;
 use worked_tables::{close_both, close_three, open, open_fresh};
 
 /// Makes objects 0 and 1 and three cells, which take the first segment.
@@ -48,16 +49,16 @@ fn image_at_the_end_of_a_segment(rt: &impl Abort, alloc: Global) -> Result<Image
 #[test]
 fn the_fourth_init_commits_the_second_segment(rt: HostRuntime) -> Result<(), OutOfMemory> {
     let before = image_at_the_end_of_a_segment(&rt, rt.alloc())?;
-    assert_eq!(rt; word_at(&rt, &before, 0), 4);
-    assert_eq!(rt; word_at(&rt, &before, 69), 1 << 57);
+    assert_is(&rt, word_at(&rt, &before, 0), 4);
+    assert_is(&rt, word_at(&rt, &before, 69), 1 << 57);
     let (shared, mut first) = open(rt.alloc(), before)?;
     let mut s = first.split(&shared, 0, &[]);
     bind(&rt, &shared, &mut s, (1, 1), 0x0f, 0xc3);
     let after = close_both(shared, first, s);
-    assert_eq!(rt; word_at(&rt, &after, 0), 0x3_0000_0005);
-    assert_eq!(rt; word_at(&rt, &after, 68), 0x400f_0000_0000_00c3);
-    assert_eq!(rt; word_at(&rt, &after, 69), 0x0100_0000_0000_0006);
-    assert_eq!(rt; word_at(&rt, &after, 71), 0x0100_0000_0000_0008);
+    assert_is(&rt, word_at(&rt, &after, 0), 0x3_0000_0005);
+    assert_is(&rt, word_at(&rt, &after, 68), 0x400f_0000_0000_00c3);
+    assert_is(&rt, word_at(&rt, &after, 69), 0x0100_0000_0000_0006);
+    assert_is(&rt, word_at(&rt, &after, 71), 0x0100_0000_0000_0008);
     Ok(())
 }
 
@@ -101,15 +102,15 @@ fn two_threads_need_a_segment_at_once_and_both_find_room(
     rt: HostRuntime,
 ) -> Result<(), OutOfMemory> {
     let before = image_at_the_end_of_a_segment(&rt, rt.alloc())?;
-    assert_eq!(rt; word_at(&rt, &before, 0), 4);
+    assert_is(&rt, word_at(&rt, &before, 0), 4);
     let (shared, mut first) = open(rt.alloc(), before)?;
     let one = first.split(&shared, 0, &[]);
     let two = first.split(&shared, 1, &[]);
     let ((one, here), (two, there)) = both_init(&rt, &shared, one, two);
-    assert_eq!(rt; here, Reply::Ok);
-    assert_eq!(rt; there, Reply::Ok);
+    assert_is(&rt, here, Reply::Ok);
+    assert_is(&rt, there, Reply::Ok);
     let after = close_three(shared, first, one, two);
-    assert_eq!(rt; word_at(&rt, &after, 0), 0x2_0000_0006);
+    assert_is(&rt, word_at(&rt, &after, 0), 0x2_0000_0006);
     let word = word_at(&rt, &after, 46);
     let other = word_at(&rt, &after, 54);
     assert!(rt; word == 0x4_0000 && other == 0x5_0000 || word == 0x5_0000 && other == 0x4_0000);

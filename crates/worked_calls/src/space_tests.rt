@@ -20,6 +20,7 @@ use std::alloc::Global;
 use std::marker::Brand;
 use std::process::Abort;
 use std::sync::ledger::{Blank, Ledger};
+use worked_asserts::assert_is;
 use worked_tables::{close_both, close_whole, open, open_fresh};
 
 /// Takes the trusted index that is expected. The ticket is dropped, and the index stays taken.
@@ -37,7 +38,7 @@ fn take_trusted<L: Ledger>(
     let Taken::At(ticket) = take(shared, s, Space::Trusted, steps) else {
         panic!(rt; "no trusted index is free");
     };
-    assert_eq!(rt; ticket.index(), index);
+    assert_is(rt, ticket.index(), index);
 }
 
 fn take_all<L: Ledger>(rt: &impl Abort, alloc: Global, blank: Blank) -> Result<(), OutOfMemory>
@@ -55,8 +56,8 @@ fn take_all<L: Ledger>(rt: &impl Abort, alloc: Global, blank: Blank) -> Result<(
         panic!(rt; "the trusted space has another index");
     };
     let image = close_whole(shared, s);
-    assert_eq!(rt; word_at(rt, &image, 2), 4);
-    assert_eq!(rt; word_at(rt, &image, 0), 0x3_0000_0001);
+    assert_is(rt, word_at(rt, &image, 2), 4);
+    assert_is(rt, word_at(rt, &image, 0), 0x3_0000_0001);
     Ok(())
 }
 
@@ -75,16 +76,16 @@ fn a_segment_is_committed_where_the_list_is_empty(rt: HostRuntime) -> Result<(),
     let second = put_new(&rt, &shared, &mut s, 0x0f, 0xc1);
     let third = put_new(&rt, &shared, &mut s, 0x0f, 0xc2);
     let image = close_whole(shared, s);
-    assert_eq!(rt; first, 0x1_0000);
-    assert_eq!(rt; second, 0x2_0000);
-    assert_eq!(rt; third, 0x3_0000);
-    assert_eq!(rt; word_at(&rt, &image, 0), 4);
-    assert_eq!(rt; word_at(&rt, &image, 68), 1 << 57);
+    assert_is(&rt, first, 0x1_0000);
+    assert_is(&rt, second, 0x2_0000);
+    assert_is(&rt, third, 0x3_0000);
+    assert_is(&rt, word_at(&rt, &image, 0), 4);
+    assert_is(&rt, word_at(&rt, &image, 68), 1 << 57);
     let (shared, mut s) = open(rt.alloc(), image)?;
     commit_segment(&shared, &mut s, Space::External);
     let image = close_whole(shared, s);
-    assert_eq!(rt; word_at(&rt, &image, 0), 0x4_0000_0004);
-    assert_eq!(rt; word_at(&rt, &image, 68), (1 << 56) + 5);
+    assert_is(&rt, word_at(&rt, &image, 0), 0x4_0000_0004);
+    assert_is(&rt, word_at(&rt, &image, 68), (1 << 56) + 5);
     Ok(())
 }
 
@@ -115,7 +116,7 @@ fn image_with_an_area(rt: &impl Abort, alloc: Global) -> Result<Image, OutOfMemo
     let (image, report) = cycle_over(rt, alloc, image, FOUR)?;
     assert!(rt; report.kept == 1 && report.freed == 3);
     let (image, area) = begin_on(rt, alloc, image, FOUR, Policy::Always)?;
-    assert_eq!(rt; area.start(), Some(4));
+    assert_is(rt, area.start(), Some(4));
     Ok(image)
 }
 
@@ -135,9 +136,9 @@ fn put_below<L: Ledger>(
     let Taken::At(ticket) = below(shared, s, 4, steps) else {
         panic!(rt; "no index below the area is free");
     };
-    assert_eq!(rt; ticket.index(), index);
+    assert_is(rt, ticket.index(), index);
     let word = put(shared, s, ticket, tag(rt, 0x0f), 0xc4);
-    assert_eq!(rt; word / 65536, index);
+    assert_is(rt, word / 65536, index);
 }
 
 /// Finds no room below the area, and aborts the compaction.
@@ -170,16 +171,16 @@ fn take_below_and_abort<L: Ledger>(
 {
     let image = image_with_an_area(rt, alloc)?;
     let (shared, mut first) = open(alloc, image)?;
-    assert_eq!(rt; first.area(), Some(4));
+    assert_is(rt, first.area(), Some(4));
     let mut steps = Steps::<L>::start(blank);
     put_below(rt, &shared, &mut first, 1, &mut steps);
     put_below(rt, &shared, &mut first, 2, &mut steps);
     put_below(rt, &shared, &mut first, 3, &mut steps);
     abort_where_full(rt, &shared, &mut first, &mut steps);
     let image = close_whole(shared, first);
-    assert_eq!(rt; word_at(rt, &image, 0), 0x3_0000_0005);
-    assert_eq!(rt; word_at(rt, &image, 1), 0x1_0000_0004);
-    assert_eq!(rt; word_at(rt, &image, 67), 0x400f_0000_0000_00c4);
+    assert_is(rt, word_at(rt, &image, 0), 0x3_0000_0005);
+    assert_is(rt, word_at(rt, &image, 1), 0x1_0000_0004);
+    assert_is(rt, word_at(rt, &image, 67), 0x400f_0000_0000_00c4);
     Ok(())
 }
 
@@ -199,14 +200,14 @@ fn an_init_in_the_area_aborts_the_compaction(rt: HostRuntime) -> Result<(), OutO
     bind(&rt, &shared, &mut s, (0, 1), 0x0f, 0xc4);
     bind(&rt, &shared, &mut s, (1, 0), 0x0f, 0xc5);
     let image = close_both(shared, first, s);
-    assert_eq!(rt; word_at(&rt, &image, 1), 4);
+    assert_is(&rt, word_at(&rt, &image, 1), 4);
     let (shared, mut first) = open(rt.alloc(), image)?;
     let mut s = first.split(&shared, 0, &[]);
     bind(&rt, &shared, &mut s, (1, 1), 0x0f, 0xc6);
     let said = init(&shared, &mut s, 0, 0, tag(&rt, 0x0f), 0xc7);
     let image = close_both(shared, first, s);
-    assert_eq!(rt; said, Reply::Taken(0x4_0000));
-    assert_eq!(rt; word_at(&rt, &image, 1), 0x1_0000_0004);
-    assert_eq!(rt; word_at(&rt, &image, 69), 0x400f_0000_0000_00c7);
+    assert_is(&rt, said, Reply::Taken(0x4_0000));
+    assert_is(&rt, word_at(&rt, &image, 1), 0x1_0000_0004);
+    assert_is(&rt, word_at(&rt, &image, 69), 0x400f_0000_0000_00c7);
     Ok(())
 }

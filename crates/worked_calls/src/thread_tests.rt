@@ -18,6 +18,7 @@ use plain_table::{OutOfMemory, Reply};
 use std::alloc::Global;
 use std::process::Abort;
 use std::thread::{Threads, join};
+use worked_asserts::assert_is;
 use worked_tables::{close_both, close_three, open, open_fresh};
 
 /// Takes an external index and fills it. The answer is its word.
@@ -61,11 +62,11 @@ fn load_both(rt: &impl Abort, shared: &Shared, s: &mut Session, here: u32, there
     ensures same { SameCaller (view s.old) (view s.new) }
 {
     let first = raw_load(shared, s, here, only(rt, 0x0f));
-    assert_eq!(rt; first, Reply::Value(0xc0));
+    assert_is(rt, first, Reply::Value(0xc0));
     let second = raw_load(shared, s, there, only(rt, 0x17));
-    assert_eq!(rt; second, Reply::Value(0xd0));
+    assert_is(rt, second, Reply::Value(0xd0));
     let past = raw_load(shared, s, 0xffff_ffff, only(rt, 0x0f));
-    assert_eq!(rt; past, Reply::Fault);
+    assert_is(rt, past, Reply::Fault);
 }
 
 /// Asserts that the first two entries are the cells of both threads, in either order.
@@ -75,8 +76,8 @@ fn assert_cells(rt: &impl Abort, image: &Image, in_order: bool) {
     } else {
         (0x4017_0000_0000_00d0, 0x400f_0000_0000_00c0)
     };
-    assert_eq!(rt; word_at(rt, image, 41), early);
-    assert_eq!(rt; word_at(rt, image, 42), late);
+    assert_is(rt, word_at(rt, image, 41), early);
+    assert_is(rt, word_at(rt, image, 42), late);
 }
 
 /// Joins the sessions of both threads into the first one, which then loads by both words, and closes the table.
@@ -108,7 +109,7 @@ fn two_threads_take_and_fill_an_entry_each(rt: HostRuntime) -> Result<(), OutOfM
     let two = first.split(&shared, 1, &[]);
     let ((one, here), (two, there)) = both_put(&rt, &shared, one, two);
     let image = load_and_close(&rt, shared, first, (one, here), (two, there));
-    assert_eq!(rt; word_at(&rt, &image, 0), 0x1_0000_0003);
+    assert_is(&rt, word_at(&rt, &image, 0), 0x1_0000_0003);
     assert!(rt; here == 0x1_0000 && there == 0x2_0000 || here == 0x2_0000 && there == 0x1_0000);
     assert_cells(&rt, &image, here == 0x1_0000);
     Ok(())
@@ -122,7 +123,7 @@ fn fetch_common(rt: &impl Abort, shared: &Shared, s: &mut Session)
     ensures same { SameCaller (view s.old) (view s.new) }
 {
     let fetched = fetch_global(shared, s, 0, 0);
-    assert_eq!(rt; fetched, Reply::Obj(0));
+    assert_is(rt, fetched, Reply::Obj(0));
 }
 
 /// An image with one object, which global 0 and the variables 0 of sessions 0 and 1 hold.
@@ -138,13 +139,13 @@ pub(crate) fn image_with_a_common_object(
     let mut two = first.split(&shared, 1, &[]);
     make(rt, &shared, &mut one, 0, 0);
     let linked = link_global(&shared, &mut one, 0, Some(0));
-    assert_eq!(rt; linked, Reply::Ok);
+    assert_is(rt, linked, Reply::Ok);
     fetch_common(rt, &shared, &mut two);
     let image = close_three(shared, first, one, two);
-    assert_eq!(rt; word_at(rt, &image, 3), 1);
+    assert_is(rt, word_at(rt, &image, 3), 1);
     assert!(rt; image.vars.len() == 128);
-    assert_eq!(rt; image.vars[0], 1);
-    assert_eq!(rt; image.vars[16], 1);
+    assert_is(rt, image.vars[0], 1);
+    assert_is(rt, image.vars[16], 1);
     Ok(image)
 }
 
@@ -202,9 +203,9 @@ fn load_winner(rt: &impl Abort, shared: &Shared, s: &mut Session, first: bool)
         (0x17, 0x0f, 0xd0)
     };
     let found = load(shared, s, 0, 0, only(rt, won));
-    assert_eq!(rt; found, Reply::Value(value));
+    assert_is(rt, found, Reply::Value(value));
     let refused = load(shared, s, 0, 0, only(rt, lost));
-    assert_eq!(rt; refused, Reply::Fault);
+    assert_is(rt, refused, Reply::Fault);
 }
 
 #[test]
@@ -215,7 +216,7 @@ fn two_threads_init_one_field_and_one_of_them_binds_it(rt: HostRuntime) -> Resul
     let two = first.split(&shared, 1, &[]);
     let ((one, here), (two, there)) = both_init(&rt, &shared, one, two);
     let image = close_three(shared, first, one, two);
-    assert_eq!(rt; word_at(&rt, &image, 0), 0x1_0000_0003);
+    assert_is(&rt, word_at(&rt, &image, 0), 0x1_0000_0003);
     let word = word_at(&rt, &image, 37);
     let won = first_won(&rt, here, there, word);
     assert_cells(&rt, &image, won == (word == 0x1_0000));
@@ -223,6 +224,6 @@ fn two_threads_init_one_field_and_one_of_them_binds_it(rt: HostRuntime) -> Resul
     let mut later = first.split(&shared, 1, &[]);
     load_winner(&rt, &shared, &mut later, won);
     let image = close_both(shared, first, later);
-    assert_eq!(rt; word_at(&rt, &image, 0), 0x1_0000_0003);
+    assert_is(&rt, word_at(&rt, &image, 0), 0x1_0000_0003);
     Ok(())
 }

@@ -10,6 +10,7 @@ use entry_base::{Session, Shared};
 use plain_table::{OutOfMemory, Policy, Reply};
 use std::process::Abort;
 use trusted_steps::{publish, share, tload, tnew, traw};
+use worked_asserts::assert_is;
 use worked_tables::{close_both, open, open_fresh};
 
 /// Calls by the trusted field of object 0, which is not bound.
@@ -19,11 +20,11 @@ fn share_null(rt: &impl Abort, shared: &Shared, s: &mut Session)
     ensures same { SameCaller (view s.old) (view s.new) }
 {
     let loaded = tload(shared, s, 0, only(rt, 0x0f));
-    assert_eq!(rt; loaded, Reply::Null);
+    assert_is(rt, loaded, Reply::Null);
     let published = publish(shared, s, 0);
-    assert_eq!(rt; published, Reply::NotYours);
+    assert_is(rt, published, Reply::NotYours);
     let shared_null = share(shared, s, 0, 1);
-    assert_eq!(rt; shared_null, Reply::Null);
+    assert_is(rt, shared_null, Reply::Null);
 }
 
 /// Fills a cell that the field of object 0 names, which can't be seen before it is published, nor another one filled before.
@@ -33,17 +34,17 @@ fn fill_and_publish(rt: &impl Abort, shared: &Shared, s: &mut Session)
     ensures same { SameCaller (view s.old) (view s.new) }
 {
     let filled = tnew(shared, s, 0, tag(rt, 0x0f), 0xc0);
-    assert_eq!(rt; filled, Reply::Ok);
+    assert_is(rt, filled, Reply::Ok);
     let hidden = tload(shared, s, 0, only(rt, 0x0f));
-    assert_eq!(rt; hidden, Reply::Fault);
+    assert_is(rt, hidden, Reply::Fault);
     let pending = tnew(shared, s, 1, tag(rt, 0x0f), 0xc1);
-    assert_eq!(rt; pending, Reply::Pending);
+    assert_is(rt, pending, Reply::Pending);
     let others = publish(shared, s, 1);
-    assert_eq!(rt; others, Reply::NotYours);
+    assert_is(rt, others, Reply::NotYours);
     let published = publish(shared, s, 0);
-    assert_eq!(rt; published, Reply::Ok);
+    assert_is(rt, published, Reply::Ok);
     let again = publish(shared, s, 0);
-    assert_eq!(rt; again, Reply::NotYours);
+    assert_is(rt, again, Reply::NotYours);
 }
 
 /// Loads the published cell, fills another one for the field that names it already, and shares it with object 1 once.
@@ -53,15 +54,15 @@ fn share_published(rt: &impl Abort, shared: &Shared, s: &mut Session)
     ensures same { SameCaller (view s.old) (view s.new) }
 {
     let loaded = tload(shared, s, 0, only(rt, 0x0f));
-    assert_eq!(rt; loaded, Reply::Value(0xc0));
+    assert_is(rt, loaded, Reply::Value(0xc0));
     let taken = tnew(shared, s, 0, tag(rt, 0x17), 0xc1);
-    assert_eq!(rt; taken, Reply::Taken(0x0001_0000));
+    assert_is(rt, taken, Reply::Taken(0x0001_0000));
     let won = share(shared, s, 0, 1);
-    assert_eq!(rt; won, Reply::Ok);
+    assert_is(rt, won, Reply::Ok);
     let lost = share(shared, s, 0, 1);
-    assert_eq!(rt; lost, Reply::Taken(0x0001_0000));
+    assert_is(rt, lost, Reply::Taken(0x0001_0000));
     let loaded = tload(shared, s, 1, only(rt, 0x0f));
-    assert_eq!(rt; loaded, Reply::Value(0xc0));
+    assert_is(rt, loaded, Reply::Value(0xc0));
 }
 
 /// Fills the last index of the trusted space, after which it is full, and loads by words of the space.
@@ -71,17 +72,17 @@ fn fill_last(rt: &impl Abort, shared: &Shared, s: &mut Session)
     ensures same { SameCaller (view s.old) (view s.new) }
 {
     let filled = tnew(shared, s, 2, tag(rt, 0x17), 0xc2);
-    assert_eq!(rt; filled, Reply::Ok);
+    assert_is(rt, filled, Reply::Ok);
     let published = publish(shared, s, 2);
-    assert_eq!(rt; published, Reply::Ok);
+    assert_is(rt, published, Reply::Ok);
     let full = tnew(shared, s, 3, tag(rt, 0x17), 0xc3);
-    assert_eq!(rt; full, Reply::Full);
+    assert_is(rt, full, Reply::Full);
     let loaded = traw(shared, s, 0x0003_0000, only(rt, 0x17));
-    assert_eq!(rt; loaded, Reply::Value(0xc2));
+    assert_is(rt, loaded, Reply::Value(0xc2));
     let past = traw(shared, s, 0xffff_ffff, only(rt, 0x17));
-    assert_eq!(rt; past, Reply::Fault);
+    assert_is(rt, past, Reply::Fault);
     let null = traw(shared, s, 0xffff, only(rt, 0x17));
-    assert_eq!(rt; null, Reply::Null);
+    assert_is(rt, null, Reply::Null);
 }
 
 /// Makes objects 2 and 3 in variables 2 and 3.
@@ -107,14 +108,14 @@ fn each_answer_of_the_calls_by_trusted_fields(rt: HostRuntime) -> Result<(), Out
     share_published(&rt, &shared, &mut s);
     fill_last(&rt, &shared, &mut s);
     let image = close_both(shared, first, s);
-    assert_eq!(rt; word_at(&rt, &image, 2), 4);
-    assert_eq!(rt; word_at(&rt, &image, 39), 0x0001_0000);
-    assert_eq!(rt; word_at(&rt, &image, 47), 0x0001_0000);
-    assert_eq!(rt; word_at(&rt, &image, 55), 0x0003_0000);
-    assert_eq!(rt; word_at(&rt, &image, 63), 0);
-    assert_eq!(rt; word_at(&rt, &image, 73), 0x400f_0000_0000_00c0);
-    assert_eq!(rt; word_at(&rt, &image, 74), 0x4817_0000_0000_00c1);
-    assert_eq!(rt; word_at(&rt, &image, 75), 0x4017_0000_0000_00c2);
+    assert_is(&rt, word_at(&rt, &image, 2), 4);
+    assert_is(&rt, word_at(&rt, &image, 39), 0x0001_0000);
+    assert_is(&rt, word_at(&rt, &image, 47), 0x0001_0000);
+    assert_is(&rt, word_at(&rt, &image, 55), 0x0003_0000);
+    assert_is(&rt, word_at(&rt, &image, 63), 0);
+    assert_is(&rt, word_at(&rt, &image, 73), 0x400f_0000_0000_00c0);
+    assert_is(&rt, word_at(&rt, &image, 74), 0x4817_0000_0000_00c1);
+    assert_is(&rt, word_at(&rt, &image, 75), 0x4017_0000_0000_00c2);
     Ok(())
 }
 
@@ -128,9 +129,9 @@ fn make_shown(rt: &impl Abort, shared: &Shared, s: &mut Session)
     make(rt, shared, s, 0, 0);
     make(rt, shared, s, 1, 1);
     let filled = tnew(shared, s, 0, tag(rt, 0x0f), 0xc0);
-    assert_eq!(rt; filled, Reply::Ok);
+    assert_is(rt, filled, Reply::Ok);
     let published = publish(shared, s, 0);
-    assert_eq!(rt; published, Reply::Ok);
+    assert_is(rt, published, Reply::Ok);
 }
 
 #[test]
@@ -141,13 +142,13 @@ fn a_share_in_a_cycle_marks_the_cell(rt: HostRuntime) -> Result<(), OutOfMemory>
     let image = close_both(shared, first, s);
     let (image, area) = begin_on(&rt, rt.alloc(), image, TWO, Policy::Never)?;
     assert!(rt; area.roots() == [0, 1].as_slice());
-    assert_eq!(rt; word_at(&rt, &image, 53), 0x000f_0000_0000_00c0);
+    assert_is(&rt, word_at(&rt, &image, 53), 0x000f_0000_0000_00c0);
     let (shared, mut first) = open(rt.alloc(), image)?;
     let mut s = first.split(&shared, 0, &[]);
     let won = share(&shared, &mut s, 0, 1);
-    assert_eq!(rt; won, Reply::Ok);
+    assert_is(&rt, won, Reply::Ok);
     let image = close_both(shared, first, s);
-    assert_eq!(rt; word_at(&rt, &image, 47), 0x0001_0000);
-    assert_eq!(rt; word_at(&rt, &image, 53), 0x400f_0000_0000_00c0);
+    assert_is(&rt, word_at(&rt, &image, 47), 0x0001_0000);
+    assert_is(&rt, word_at(&rt, &image, 53), 0x400f_0000_0000_00c0);
     Ok(())
 }

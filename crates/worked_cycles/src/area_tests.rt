@@ -26,6 +26,7 @@ use std::alloc::Global;
 use std::marker::Brand;
 use std::process::Abort;
 use std::sync::ledger::{Blank, Ledger};
+use worked_asserts::assert_is;
 use worked_tables::{SHAPE, close_both, close_whole, open, take_head, word_at};
 
 /// The word of the cell at index 4, unmarked.
@@ -53,11 +54,11 @@ fn take_below<L: Ledger>(
     ensures ticked { steps.new ≡ steps.old + 1 }
 {
     let found = load_freelist_for_below(shared, s, 4);
-    assert_eq!(rt; found, word);
+    assert_is(rt, found, word);
     assert!(rt; found / (1 << 32) != 0);
     assert!(rt; found % (1 << 32) < 4);
     let link = load_link(shared, s, Space::External, found);
-    assert_eq!(rt; link, (1 << 56) + next as u64);
+    assert_is(rt, link, (1 << 56) + next as u64);
     let Ok(index) = below_step(shared, s, 4, found, next, steps) else {
         panic!(rt; "the freelist word changed");
     };
@@ -78,11 +79,11 @@ fn pass_moved(rt: &impl Abort, shared: &Shared, s: &mut Session, index: u32)
     ensures passed { PassedField (view s.new) (field.External 0) }
 {
     let word = load_word(shared, s, 0, 0);
-    assert_eq!(rt; word, 0x4_0000);
+    assert_is(rt, word, 0x4_0000);
     let entry = load_entry(shared, s, Space::External, 0, 0, 0x4_0000);
-    assert_eq!(rt; entry, CELL);
+    assert_is(rt, entry, CELL);
     let found = mark_step(shared, s, Space::External, 0, 0, 0x4_0000, CELL);
-    assert_eq!(rt; found, CELL);
+    assert_is(rt, found, CELL);
     evacuate_step(shared, s, index, 0, 0x4_0000);
 }
 
@@ -114,7 +115,7 @@ fn scan_in_area<L: Ledger>(rt: &impl Abort, shared: &Shared, s: &mut Session, st
     ensures same { SameCaller (view s.old) (view s.new) }
     ensures ticked { steps.new ≡ steps.old + 1 }
 {
-    assert_eq!(rt; s.area(), Some(4));
+    assert_is(rt, s.area(), Some(4));
     scan_moved(rt, shared, s, steps);
 }
 
@@ -129,20 +130,20 @@ fn evacuate<L: Ledger, M: Ledger>(
     requires one { (made.parts ≡ 1) × (blank.parts ≡ 1) }
 {
     let image = image_to_move::<M>(rt, alloc, made)?;
-    assert_eq!(rt; word_at(&image, 0), Some(0x6_0000_0001));
-    assert_eq!(rt; word_at(&image, 32), Some(1));
-    assert_eq!(rt; word_at(&image, 65), Some((1 << 56) + 2));
-    assert_eq!(rt; word_at(&image, 68), Some(CELL));
+    assert_is(rt, word_at(&image, 0), Some(0x6_0000_0001));
+    assert_is(rt, word_at(&image, 32), Some(1));
+    assert_is(rt, word_at(&image, 65), Some((1 << 56) + 2));
+    assert_is(rt, word_at(&image, 68), Some(CELL));
     let (shared, mut first, roots) = open_with_roots(alloc, image)?;
     assert!(rt; roots.as_slice() == [0].as_slice());
     let mut marker = first.split(&shared, 8, roots.as_slice());
     let mut steps = Steps::<L>::start(blank);
     scan_in_area(rt, &shared, &mut marker, &mut steps);
     let after = close_both(shared, first, marker);
-    assert_eq!(rt; word_at(&after, 0), Some(0x5_0000_0002));
-    assert_eq!(rt; word_at(&after, 32), Some(3));
-    assert_eq!(rt; word_at(&after, 65), Some(1 << 58));
-    assert_eq!(rt; word_at(&after, 68), Some(CELL + (1 << 62)));
+    assert_is(rt, word_at(&after, 0), Some(0x5_0000_0002));
+    assert_is(rt, word_at(&after, 32), Some(3));
+    assert_is(rt, word_at(&after, 65), Some(1 << 58));
+    assert_is(rt, word_at(&after, 68), Some(CELL + (1 << 62)));
     Ok(())
 }
 
@@ -161,13 +162,13 @@ fn take_below_with_stale_word<L: Ledger>(
     ensures ticked { steps.new ≡ steps.old + 2 }
 {
     let stale = load_freelist_for_below(shared, other, 4);
-    assert_eq!(rt; stale, 0x6_0000_0001);
+    assert_is(rt, stale, 0x6_0000_0001);
     let link = load_link(shared, other, Space::External, stale);
-    assert_eq!(rt; link, (1 << 56) + 2);
+    assert_is(rt, link, (1 << 56) + 2);
     let index = take_below(rt, shared, first, 0x6_0000_0001, 2, steps);
-    assert_eq!(rt; index, 1);
+    assert_is(rt, index, 1);
     let missed = below_step(shared, other, 4, stale, 2, steps);
-    assert_eq!(rt; missed, Err(0x5_0000_0002));
+    assert_is(rt, missed, Err(0x5_0000_0002));
 }
 
 /// Takes the two last indexes below the area.
@@ -185,8 +186,8 @@ fn take_last_below<L: Ledger>(
 {
     let second = take_below(rt, shared, s, 0x5_0000_0002, 3, steps);
     let third = take_below(rt, shared, s, 0x4_0000_0003, 5, steps);
-    assert_eq!(rt; second, 2);
-    assert_eq!(rt; third, 3);
+    assert_is(rt, second, 2);
+    assert_is(rt, third, 3);
 }
 
 /// Finds no room below the area, and aborts the compaction. The area word is loaded before and after.
@@ -198,12 +199,12 @@ fn abort_full(rt: &impl Abort, shared: &Shared, s: &mut Session)
     ensures aborted { Has (view s.new).facts fact.Aborted }
 {
     let word = load_freelist_for_below(shared, s, 4);
-    assert_eq!(rt; word, 0x3_0000_0005);
+    assert_is(rt, word, 0x3_0000_0005);
     let before = load_area(shared, s);
-    assert_eq!(rt; before, 4);
+    assert_is(rt, before, 4);
     abort_step(shared, s, 4);
     let after = load_area(shared, s);
-    assert_eq!(rt; after, 0x1_0000_0004);
+    assert_is(rt, after, 0x1_0000_0004);
 }
 
 /// Takes an index of the area and fills it, after the abort, which the area word says.
@@ -215,9 +216,9 @@ fn put_in_area<L: Ledger>(rt: &impl Abort, shared: &Shared, s: &mut Session, ste
     ensures ticked { steps.new ≡ steps.old + 1 }
 {
     let aborted = load_area(shared, s);
-    assert_eq!(rt; aborted, 0x1_0000_0004);
+    assert_is(rt, aborted, 0x1_0000_0004);
     let taken = take_head(shared, s, Space::External, 0x3_0000_0005, 6, steps);
-    assert_eq!(rt; taken, Some(5));
+    assert_is(rt, taken, Some(5));
     put_external(shared, s, 5, 0x0f, 0xd0);
 }
 
@@ -235,8 +236,8 @@ fn spend_and_abort<L: Ledger>(
     ensures same { SameCaller (view first.old) (view first.new) × SameCaller (view marker.old) (view marker.new) }
     ensures ticked { steps.new ≡ steps.old + 5 }
 {
-    assert_eq!(rt; first.area(), Some(4));
-    assert_eq!(rt; marker.area(), Some(4));
+    assert_is(rt, first.area(), Some(4));
+    assert_is(rt, marker.area(), Some(4));
     take_below_with_stale_word(rt, shared, first, marker, steps);
     take_last_below(rt, shared, first, steps);
     abort_full(rt, shared, marker);
@@ -254,16 +255,16 @@ fn miss_and_abort<L: Ledger, M: Ledger>(
     requires one { (made.parts ≡ 1) × (blank.parts ≡ 1) }
 {
     let image = image_to_move::<M>(rt, alloc, made)?;
-    assert_eq!(rt; word_at(&image, 1), Some(4));
-    assert_eq!(rt; word_at(&image, 69), Some((1 << 56) + 6));
+    assert_is(rt, word_at(&image, 1), Some(4));
+    assert_is(rt, word_at(&image, 69), Some((1 << 56) + 6));
     let (shared, mut first) = open(alloc, image)?;
     let mut marker = first.split(&shared, 8, &[]);
     let mut steps = Steps::<L>::start(blank);
     spend_and_abort(rt, &shared, &mut first, &mut marker, &mut steps);
     let after = close_both(shared, first, marker);
-    assert_eq!(rt; word_at(&after, 0), Some(0x2_0000_0006));
-    assert_eq!(rt; word_at(&after, 1), Some(0x1_0000_0004));
-    assert_eq!(rt; word_at(&after, 69), Some(0x400f_0000_0000_00d0));
+    assert_is(rt, word_at(&after, 0), Some(0x2_0000_0006));
+    assert_is(rt, word_at(&after, 1), Some(0x1_0000_0004));
+    assert_is(rt, word_at(&after, 69), Some(0x400f_0000_0000_00d0));
     Ok(())
 }
 
@@ -274,9 +275,9 @@ fn put_below<L: Ledger>(rt: &impl Abort, shared: &Shared, s: &mut Session, steps
     ensures same { SameCaller (view s.old) (view s.new) }
     ensures ticked { steps.new ≡ steps.old + 1 }
 {
-    assert_eq!(rt; s.area(), Some(4));
+    assert_is(rt, s.area(), Some(4));
     let taken = take_head(shared, s, Space::External, 0x6_0000_0001, 2, steps);
-    assert_eq!(rt; taken, Some(1));
+    assert_is(rt, taken, Some(1));
     put_external(shared, s, 1, 0x0f, 0xd0);
 }
 
@@ -291,14 +292,14 @@ fn fill_below<L: Ledger, M: Ledger>(
     requires one { (made.parts ≡ 1) × (blank.parts ≡ 1) }
 {
     let image = image_to_move::<M>(rt, alloc, made)?;
-    assert_eq!(rt; word_at(&image, 65), Some((1 << 56) + 2));
+    assert_is(rt, word_at(&image, 65), Some((1 << 56) + 2));
     let (shared, mut session) = open(alloc, image)?;
     let mut steps = Steps::<L>::start(blank);
     put_below(rt, &shared, &mut session, &mut steps);
     let after = close_whole(shared, session);
-    assert_eq!(rt; word_at(&after, 0), Some(0x5_0000_0002));
-    assert_eq!(rt; word_at(&after, 1), Some(4));
-    assert_eq!(rt; word_at(&after, 65), Some(0x400f_0000_0000_00d0));
+    assert_is(rt, word_at(&after, 0), Some(0x5_0000_0002));
+    assert_is(rt, word_at(&after, 1), Some(4));
+    assert_is(rt, word_at(&after, 65), Some(0x400f_0000_0000_00d0));
     Ok(())
 }
 
@@ -310,11 +311,11 @@ fn take_area<L: Ledger>(rt: &impl Abort, shared: &Shared, s: &mut Session, steps
     ensures ticked { steps.new ≡ steps.old + 3 }
 {
     let fifth = take_head(shared, s, Space::External, 0x3_0000_0005, 6, steps);
-    assert_eq!(rt; fifth, Some(5));
+    assert_is(rt, fifth, Some(5));
     let sixth = take_head(shared, s, Space::External, 0x2_0000_0006, 7, steps);
-    assert_eq!(rt; sixth, Some(6));
+    assert_is(rt, sixth, Some(6));
     let seventh = take_head(shared, s, Space::External, 0x1_0000_0007, 8, steps);
-    assert_eq!(rt; seventh, Some(7));
+    assert_is(rt, seventh, Some(7));
 }
 
 /// Loads the freelist word for a take below the area, which is the event of one that finds no room: the list is empty.
@@ -326,7 +327,7 @@ fn find_empty(rt: &impl Abort, shared: &Shared, s: &mut Session)
     ensures full { Extends (view s.old) (event_of (view s.old) (act.Below 4) reply.NoRoom) (view s.new) }
 {
     let word = load_freelist_for_below(shared, s, 4);
-    assert_eq!(rt; word, 8);
+    assert_is(rt, word, 8);
 }
 
 /// Takes all that is free, from what is below the area on, which begins at 4, and finds the list empty.
@@ -336,7 +337,7 @@ fn spend_all<L: Ledger>(rt: &impl Abort, shared: &Shared, s: &mut Session, steps
     ensures same { SameCaller (view s.old) (view s.new) }
     ensures ticked { steps.new ≡ steps.old + 6 }
 {
-    assert_eq!(rt; s.area(), Some(4));
+    assert_is(rt, s.area(), Some(4));
     put_below(rt, shared, s, steps);
     take_last_below(rt, shared, s, steps);
     take_area(rt, shared, s, steps);
@@ -358,7 +359,7 @@ fn spend_external<L: Ledger, M: Ledger>(
     let mut steps = Steps::<L>::start(blank);
     spend_all(rt, &shared, &mut session, &mut steps);
     let after = close_whole(shared, session);
-    assert_eq!(rt; word_at(&after, 0), Some(8));
+    assert_is(rt, word_at(&after, 0), Some(8));
     Ok(())
 }
 

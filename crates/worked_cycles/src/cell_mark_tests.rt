@@ -20,6 +20,7 @@ use std::alloc::Global;
 use std::marker::Brand;
 use std::process::Abort;
 use std::sync::ledger::{Blank, Ledger};
+use worked_asserts::assert_is;
 use worked_tables::{SHAPE, close_three, word_at};
 
 /// The word of the trusted cell at index 1, unmarked.
@@ -38,9 +39,9 @@ pub(crate) fn find_in_hands(rt: &impl Abort, shared: &Shared, s: &mut Session)
     ensures entry { Has (view s.new).facts (fact.Entry Trusted 1 UNMARKED) }
 {
     let word = load_word(shared, s, 0, 2);
-    assert_eq!(rt; word, 0x1_0000);
+    assert_is(rt, word, 0x1_0000);
     let entry = load_mark(shared, s, Space::Trusted, 0, 2, 0x1_0000);
-    assert_eq!(rt; entry, UNMARKED);
+    assert_is(rt, entry, UNMARKED);
 }
 
 /// A mutator names the trusted field of object 0, which variable 0 holds, and loads the entry that it names, which is not marked.
@@ -55,11 +56,11 @@ pub(crate) fn find_held(rt: &impl Abort, shared: &Shared, s: &mut Session)
     ensures touched { Has (view s.new).facts (fact.Touched (field.Trusted 0) 65536) }
     ensures entry { Has (view s.new).facts (fact.Entry Trusted 1 UNMARKED) }
 {
-    assert_eq!(rt; s.held(0), Some(0));
+    assert_is(rt, s.held(0), Some(0));
     let word = name_trusted(shared, s, 0);
-    assert_eq!(rt; word, 0x1_0000);
+    assert_is(rt, word, 0x1_0000);
     let entry = load_mark(shared, s, Space::Trusted, 0, 2, 0x1_0000);
-    assert_eq!(rt; entry, UNMARKED);
+    assert_is(rt, entry, UNMARKED);
 }
 
 /// Tries to mark the entry that was found. The answer is the word that the exchange finds.
@@ -92,8 +93,8 @@ fn mark_twice(rt: &impl Abort, shared: &Shared, marker: &mut Session, mutator: &
     find_held(rt, shared, mutator);
     let won = mark_found(shared, marker);
     let found = mark_found(shared, mutator);
-    assert_eq!(rt; won, UNMARKED);
-    assert_eq!(rt; found, MARKED);
+    assert_is(rt, won, UNMARKED);
+    assert_is(rt, found, MARKED);
 }
 
 /// Loads the entry at index 1 for a mark once more, which is marked now.
@@ -106,7 +107,7 @@ fn find_marked(rt: &impl Abort, shared: &Shared, s: &mut Session)
     ensures marked { Extends (view s.old) (event_of (view s.old) (act.Mark Trusted 1) reply.Ok) (view s.new) }
 {
     let entry = load_mark(shared, s, Space::Trusted, 0, 2, 0x1_0000);
-    assert_eq!(rt; entry, MARKED);
+    assert_is(rt, entry, MARKED);
 }
 
 /// Shares the marked cell with object 1, which reference 0 of object 0 has: the first of two tries wins.
@@ -118,14 +119,14 @@ fn share_marked(rt: &impl Abort, shared: &Shared, s: &mut Session)
     ensures caller { IsOf shared.now s.new }
     ensures same { SameCaller (view s.old) (view s.new) }
 {
-    assert_eq!(rt; s.held(0), Some(0));
+    assert_is(rt, s.held(0), Some(0));
     let got = get_reference(shared, s, 1, 0, 0);
-    assert_eq!(rt; got, 2);
-    assert_eq!(rt; s.held(1), Some(1));
+    assert_is(rt, got, 2);
+    assert_is(rt, s.held(1), Some(1));
     let won = bind_shared(shared, s, 1, 0x1_0000);
     let taken = bind_shared(shared, s, 1, 0x1_0000);
-    assert_eq!(rt; won, 0);
-    assert_eq!(rt; taken, 0x1_0000);
+    assert_is(rt, won, 0);
+    assert_is(rt, taken, 0x1_0000);
 }
 
 fn mark_and_share<L: Ledger>(
@@ -138,19 +139,19 @@ fn mark_and_share<L: Ledger>(
     requires one { blank.parts ≡ 1 }
 {
     let image = image_to_mark::<L>(rt, alloc, blank)?;
-    assert_eq!(rt; word_at(&image, 73), Some(UNMARKED));
-    assert_eq!(rt; word_at(&image, 47), Some(0));
+    assert_is(rt, word_at(&image, 73), Some(UNMARKED));
+    assert_is(rt, word_at(&image, 47), Some(0));
     let (shared, mut first, roots) = open_with_roots(alloc, image)?;
     assert!(rt; roots.as_slice() == [0].as_slice());
     let mut mutator = first.split(&shared, 0, &[]);
     let mut marker = first.split(&shared, 8, roots.as_slice());
-    assert_eq!(rt; mutator.in_cycle(), true);
+    assert_is(rt, mutator.in_cycle(), true);
     mark_twice(rt, &shared, &mut marker, &mut mutator);
     find_marked(rt, &shared, &mut marker);
     share_marked(rt, &shared, &mut mutator);
     let after = close_three(shared, first, mutator, marker);
-    assert_eq!(rt; word_at(&after, 73), Some(MARKED));
-    assert_eq!(rt; word_at(&after, 47), Some(0x1_0000));
+    assert_is(rt, word_at(&after, 73), Some(MARKED));
+    assert_is(rt, word_at(&after, 47), Some(0x1_0000));
     Ok(())
 }
 

@@ -19,6 +19,7 @@ use std::alloc::Global;
 use std::process::Abort;
 use std::sync::ledger::{Blank, Ledger};
 use sweeper::{begin, late_mark, sweep};
+use worked_asserts::assert_is;
 use worked_tables::{
     SHAPE, close_both, commit_linked, link_two, make_next, open_fresh, put_hidden, put_next,
     take_three,
@@ -97,9 +98,9 @@ fn bind_first<L: Ledger>(
     let Some(index) = put_next(shared, s, word, next, 0xc0, steps) else {
         panic!(rt; "the freelist word is not the one that was expected");
     };
-    assert_eq!(rt; s.held(0), Some(0));
+    assert_is(rt, s.held(0), Some(0));
     let found = bind_external(shared, s, 0, 65536 * index);
-    assert_eq!(rt; found, 0);
+    assert_is(rt, found, 0);
 }
 
 /// Binds a new trusted cell at index 1 to the trusted field of object 0, which variable 0 holds, and publishes it.
@@ -116,10 +117,10 @@ fn bind_published<L: Ledger>(
     ensures ticked { steps.new ≡ steps.old + 1 }
 {
     let put = put_hidden(shared, s, 0x3_0000_0001, 2, 0xd0, steps);
-    assert_eq!(rt; put, Some(1));
-    assert_eq!(rt; s.held(0), Some(0));
+    assert_is(rt, put, Some(1));
+    assert_is(rt, s.held(0), Some(0));
     let found = bind_trusted(shared, s, 0, 0x1_0000, 0x0f, 0xd0);
-    assert_eq!(rt; found, 0);
+    assert_is(rt, found, 0);
     publish_step(shared, s, 1, 0x0f, 0xd0);
 }
 
@@ -130,9 +131,9 @@ fn link_second(rt: &impl Abort, shared: &Shared, s: &mut Session)
     ensures caller { IsOf shared.now s.new }
     ensures same { SameCaller (view s.old) (view s.new) }
 {
-    assert_eq!(rt; s.in_cycle(), false);
-    assert_eq!(rt; s.held(0), Some(0));
-    assert_eq!(rt; s.held(1), Some(1));
+    assert_is(rt, s.in_cycle(), false);
+    assert_is(rt, s.held(0), Some(0));
+    assert_is(rt, s.held(1), Some(1));
     link_reference(shared, s, 0, 0, Some(1), 2);
     drop_step(shared, s, 1);
 }
@@ -153,7 +154,7 @@ pub(crate) fn image_to_mark<L: Ledger>(
 {
     let (shared, mut first) = open_fresh(alloc, SHAPE)?;
     let mut one = first.split(&shared, 0, &[]);
-    assert_eq!(rt; one.area(), None);
+    assert_is(rt, one.area(), None);
     let mut steps = Steps::<L>::start(blank);
     make_two(rt, &shared, &mut one);
     bind_first(rt, &shared, &mut one, 0x3_0000_0001, 2, &mut steps);
@@ -176,9 +177,9 @@ fn take_and_commit<L: Ledger>(
     ensures same { SameCaller (view s.old) (view s.new) }
     ensures ticked { steps.new ≡ steps.old + 3 }
 {
-    assert_eq!(rt; take_three(shared, s, steps), Some(3));
+    assert_is(rt, take_three(shared, s, steps), Some(3));
     let empty = load_freelist(shared, s, Space::External);
-    assert_eq!(rt; empty, 4);
+    assert_is(rt, empty, 4);
     link_two(shared, s, 4);
     link_two(shared, s, 6);
     commit_linked(shared, s);
@@ -220,7 +221,7 @@ pub(crate) fn image_to_move<L: Ledger>(
 {
     let (shared, mut first) = open_fresh(alloc, SHAPE)?;
     let mut one = first.split(&shared, 0, &[]);
-    assert_eq!(rt; one.area(), None);
+    assert_is(rt, one.area(), None);
     let mut steps = Steps::<L>::start(blank);
     assert!(rt; make_next(&shared, &mut one, 0, 0));
     take_and_commit(rt, &shared, &mut one, &mut steps);

@@ -13,6 +13,7 @@ use std::alloc::Global;
 use std::marker::Brand;
 use std::process::Abort;
 use std::sync::ledger::{Blank, Ledger};
+use worked_asserts::assert_is;
 use worked_tables::{close_both, word_at};
 
 /// Gets object 1 from reference 0 of object 0, which variable 0 holds, shades it, and links reference 1 of object 0 to it.
@@ -23,14 +24,14 @@ fn shade_and_link(rt: &impl Abort, shared: &Shared, s: &mut Session)
     ensures caller { IsOf shared.now s.new }
     ensures same { SameCaller (view s.old) (view s.new) }
 {
-    assert_eq!(rt; s.held(0), Some(0));
+    assert_is(rt, s.held(0), Some(0));
     let got = get_reference(shared, s, 1, 0, 0);
-    assert_eq!(rt; got, 2);
-    assert_eq!(rt; s.held(1), Some(1));
+    assert_is(rt, got, 2);
+    assert_is(rt, s.held(1), Some(1));
     let white = shade_seen(shared, s, 1);
-    assert_eq!(rt; white, 0);
-    assert_eq!(rt; s.held(0), Some(0));
-    assert_eq!(rt; s.held(1), Some(1));
+    assert_is(rt, white, 0);
+    assert_is(rt, s.held(0), Some(0));
+    assert_is(rt, s.held(1), Some(1));
     link_reference(shared, s, 0, 1, Some(1), 2);
 }
 
@@ -40,16 +41,16 @@ fn link_in_cycle<L: Ledger>(rt: &impl Abort, alloc: Global, blank: Blank) -> Res
     requires one { blank.parts ≡ 1 }
 {
     let image = image_to_mark::<L>(rt, alloc, blank)?;
-    assert_eq!(rt; word_at(&image, 34), Some(0));
-    assert_eq!(rt; word_at(&image, 40), Some(0));
+    assert_is(rt, word_at(&image, 34), Some(0));
+    assert_is(rt, word_at(&image, 40), Some(0));
     let (shared, mut first, roots) = open_with_roots(alloc, image)?;
     assert!(rt; roots.as_slice() == [0].as_slice());
     let mut mutator = first.split(&shared, 0, &[]);
-    assert_eq!(rt; mutator.in_cycle(), true);
+    assert_is(rt, mutator.in_cycle(), true);
     shade_and_link(rt, &shared, &mut mutator);
     let image = close_both(shared, first, mutator);
-    assert_eq!(rt; word_at(&image, 34), Some(2));
-    assert_eq!(rt; word_at(&image, 40), Some(1));
+    assert_is(rt, word_at(&image, 34), Some(2));
+    assert_is(rt, word_at(&image, 40), Some(1));
     Ok(())
 }
 

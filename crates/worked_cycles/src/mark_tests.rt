@@ -15,6 +15,7 @@ use entry_base::{Session, Shared, owed_objects};
 use mark_rule::{load_reference, load_word};
 use plain_table::OutOfMemory;
 use std::process::Abort;
+use worked_asserts::assert_is;
 use worked_tables::{close_both, close_whole, open, word_at};
 
 #[test]
@@ -23,10 +24,10 @@ fn an_object_that_a_variable_holds_is_the_root_of_a_cycle(
 ) -> Result<(), OutOfMemory> {
     let image = image_in_a_cycle(&rt, rt.alloc())?;
     let roots = owed_objects(rt.alloc(), &image)?;
-    assert_eq!(rt; roots.as_slice(), [0].as_slice());
-    assert_eq!(rt; word_at(&image, 4), Some(1));
-    assert_eq!(rt; word_at(&image, 32), Some(1));
-    assert_eq!(rt; word_at(&image, 40), Some(3));
+    assert_is(&rt, roots.as_slice(), [0].as_slice());
+    assert_is(&rt, word_at(&image, 4), Some(1));
+    assert_is(&rt, word_at(&image, 32), Some(1));
+    assert_is(&rt, word_at(&image, 40), Some(3));
     Ok(())
 }
 
@@ -37,11 +38,11 @@ fn a_phase_in_a_cycle_without_a_step_leaves_the_image_as_it_was(
     let before = image_in_a_cycle(&rt, rt.alloc())?;
     let image = image_in_a_cycle(&rt, rt.alloc())?;
     let (shared, session) = open(rt.alloc(), image)?;
-    assert_eq!(rt; session.in_cycle(), true);
-    assert_eq!(rt; session.area(), None);
+    assert_is(&rt, session.in_cycle(), true);
+    assert_is(&rt, session.area(), None);
     let after = close_whole(shared, session);
-    assert_eq!(rt; after.words.as_slice(), before.words.as_slice());
-    assert_eq!(rt; after.vars.as_slice(), before.vars.as_slice());
+    assert_is(&rt, after.words.as_slice(), before.words.as_slice());
+    assert_is(&rt, after.vars.as_slice(), before.vars.as_slice());
     Ok(())
 }
 
@@ -98,6 +99,6 @@ fn a_marker_loads_the_words_of_an_object_of_a_chunk(rt: HostRuntime) -> Result<(
     assert!(rt; objects.as_slice() == [0].as_slice());
     load_empty_object(&rt, &shared, &mut marker);
     let after = close_both(shared, first, marker);
-    assert_eq!(rt; after.words.as_slice(), before.words.as_slice());
+    assert_is(&rt, after.words.as_slice(), before.words.as_slice());
     Ok(())
 }

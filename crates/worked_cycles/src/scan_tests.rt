@@ -18,6 +18,7 @@ use std::alloc::Global;
 use std::marker::Brand;
 use std::process::Abort;
 use std::sync::ledger::{Blank, Ledger};
+use worked_asserts::assert_is;
 use worked_tables::{SHAPE, close_both, close_three, word_at};
 
 /// The words of the cells at index 1 of both spaces, unmarked.
@@ -37,11 +38,11 @@ fn pass_external(rt: &impl Abort, shared: &Shared, s: &mut Session)
     ensures passed { PassedField (view s.new) (field.External 0) }
 {
     let word = load_word(shared, s, 0, 0);
-    assert_eq!(rt; word, 0x1_0000);
+    assert_is(rt, word, 0x1_0000);
     let entry = load_entry(shared, s, Space::External, 0, 0, 0x1_0000);
-    assert_eq!(rt; entry, EXTERNAL);
+    assert_is(rt, entry, EXTERNAL);
     let found = mark_step(shared, s, Space::External, 0, 0, 0x1_0000, EXTERNAL);
-    assert_eq!(rt; found, EXTERNAL);
+    assert_is(rt, found, EXTERNAL);
 }
 
 /// Passes the trusted field of object 0, whose cell at index 1 it marks.
@@ -55,11 +56,11 @@ fn pass_trusted(rt: &impl Abort, shared: &Shared, s: &mut Session)
     ensures passed { PassedField (view s.new) (field.Trusted 0) }
 {
     let word = load_word(shared, s, 0, 2);
-    assert_eq!(rt; word, 0x1_0000);
+    assert_is(rt, word, 0x1_0000);
     let entry = load_entry(shared, s, Space::Trusted, 0, 2, 0x1_0000);
-    assert_eq!(rt; entry, TRUSTED);
+    assert_is(rt, entry, TRUSTED);
     let found = mark_step(shared, s, Space::Trusted, 0, 2, 0x1_0000, TRUSTED);
-    assert_eq!(rt; found, TRUSTED);
+    assert_is(rt, found, TRUSTED);
 }
 
 /// Passes a field of an object, which is empty.
@@ -118,11 +119,11 @@ fn pass_linked(rt: &impl Abort, shared: &Shared, s: &mut Session)
     ensures passed { PassedReference (view s.new) 0 0 }
 {
     let word = load_reference(shared, s, 0, 0);
-    assert_eq!(rt; word, 2);
+    assert_is(rt, word, 2);
     let white = shade_seen(shared, s, 1);
-    assert_eq!(rt; white, 0);
+    assert_is(rt, white, 0);
     let shaded = shade_seen(shared, s, 1);
-    assert_eq!(rt; shaded, 1);
+    assert_is(rt, shaded, 1);
 }
 
 /// Scans object 0 of the hands, and leaves object 1 in them.
@@ -179,38 +180,41 @@ fn scan_in_two_phases<L: Ledger>(
     requires one { blank.parts ≡ 1 }
 {
     let image = image_to_mark::<L>(rt, alloc, blank)?;
-    assert_eq!(rt;
+    assert_is(
+        rt,
         words_scanned(&image),
-        [Some(1), Some(0), Some(EXTERNAL), Some(TRUSTED)]
+        [Some(1), Some(0), Some(EXTERNAL), Some(TRUSTED)],
     );
     let (shared, mut first, roots) = open_with_roots(alloc, image)?;
     assert!(rt; roots.as_slice() == [0].as_slice());
-    assert_eq!(rt; first.area(), None);
+    assert_is(rt, first.area(), None);
     let mut marker = first.split(&shared, 8, roots.as_slice());
     scan_first(rt, &shared, &mut marker);
     let image = close_both(shared, first, marker);
-    assert_eq!(rt;
+    assert_is(
+        rt,
         words_scanned(&image),
         [
             Some(3),
             Some(1),
             Some(EXTERNAL + MARK),
-            Some(TRUSTED + MARK)
-        ]
+            Some(TRUSTED + MARK),
+        ],
     );
     let (shared, mut first, roots) = open_with_roots(alloc, image)?;
     assert!(rt; roots.as_slice() == [1].as_slice());
     let mut marker = first.split(&shared, 8, roots.as_slice());
     scan_second(rt, &shared, &mut marker);
     let image = close_both(shared, first, marker);
-    assert_eq!(rt;
+    assert_is(
+        rt,
         words_scanned(&image),
         [
             Some(3),
             Some(3),
             Some(EXTERNAL + MARK),
-            Some(TRUSTED + MARK)
-        ]
+            Some(TRUSTED + MARK),
+        ],
     );
     Ok(())
 }
@@ -225,7 +229,7 @@ fn forge_free(rt: &impl Abort, shared: &Shared, s: &mut Session)
     ensures caller { IsOf shared.now s.new }
     ensures same { SameCaller (view s.old) (view s.new) }
 {
-    assert_eq!(rt; s.held(0), Some(0));
+    assert_is(rt, s.held(0), Some(0));
     forge_step(shared, s, 1, 0x2_0000);
 }
 
@@ -240,9 +244,9 @@ fn pass_forged(rt: &impl Abort, shared: &Shared, s: &mut Session)
     ensures passed { PassedField (view s.new) (field.External 1) }
 {
     let word = load_word(shared, s, 0, 1);
-    assert_eq!(rt; word, 0x2_0000);
+    assert_is(rt, word, 0x2_0000);
     let entry = load_entry(shared, s, Space::External, 0, 1, 0x2_0000);
-    assert_eq!(rt; entry, FREE);
+    assert_is(rt, entry, FREE);
 }
 
 /// The word of the entry at index 2, which is free and links index 3.
@@ -255,14 +259,14 @@ fn a_field_whose_word_names_no_cell_is_passed_without_a_mark(
     let image = image_in_a_cycle(&rt, rt.alloc())?;
     let (shared, mut first, roots) = open_with_roots(rt.alloc(), image)?;
     assert!(rt; roots.as_slice() == [0].as_slice());
-    assert_eq!(rt; first.area(), None);
+    assert_is(&rt, first.area(), None);
     let mut mutator = first.split(&shared, 0, &[]);
     let mut marker = first.split(&shared, 8, roots.as_slice());
     forge_free(&rt, &shared, &mut mutator);
     pass_forged(&rt, &shared, &mut marker);
     let image = close_three(shared, first, mutator, marker);
-    assert_eq!(rt; word_at(&image, 38), Some(0x2_0000));
-    assert_eq!(rt; word_at(&image, 66), Some(FREE));
+    assert_is(&rt, word_at(&image, 38), Some(0x2_0000));
+    assert_is(&rt, word_at(&image, 66), Some(FREE));
     Ok(())
 }
 

@@ -18,6 +18,7 @@ use std::marker::Brand;
 use std::process::Abort;
 use std::sync::ledger::{Blank, Ledger};
 use std::thread::{Threads, join};
+use worked_asserts::assert_is;
 use worked_tables::{SHAPE, close_three, try_new, word_at};
 
 /// Marks the cell that was found. The answer is the word that the exchange finds.
@@ -63,18 +64,18 @@ fn mark_at_once<R: Threads + Sync + Abort, L: Ledger>(
     requires one { blank.parts ≡ 1 }
 {
     let image = image_to_mark::<L>(rt, alloc, blank)?;
-    assert_eq!(rt; word_at(&image, 73), Some(UNMARKED));
+    assert_is(rt, word_at(&image, 73), Some(UNMARKED));
     let (shared, mut first, roots) = open_with_roots(alloc, image)?;
     assert!(rt; roots.as_slice() == [0].as_slice());
     let mut mutator = first.split(&shared, 0, &[]);
     let mut marker = first.split(&shared, 8, roots.as_slice());
-    assert_eq!(rt; mutator.in_cycle(), true);
+    assert_is(rt, mutator.in_cycle(), true);
     find_held(rt, &shared, &mut mutator);
     find_in_hands(rt, &shared, &mut marker);
     let ((mutator, here), (marker, there)) = both_mark(rt, &shared, mutator, marker);
     let image = close_three(shared, first, mutator, marker);
     assert!(rt; here == UNMARKED && there == MARKED || here == MARKED && there == UNMARKED);
-    assert_eq!(rt; word_at(&image, 73), Some(MARKED));
+    assert_is(rt, word_at(&image, 73), Some(MARKED));
     Ok(())
 }
 
@@ -131,8 +132,8 @@ fn a_chunk_is_scanned_on_one_thread_while_another_makes_an_object(
     rt: HostRuntime,
 ) -> Result<(), OutOfMemory> {
     let image = image_in_a_cycle(&rt, rt.alloc())?;
-    assert_eq!(rt; word_at(&image, 32), Some(1));
-    assert_eq!(rt; word_at(&image, 3), Some(1));
+    assert_is(&rt, word_at(&image, 32), Some(1));
+    assert_is(&rt, word_at(&image, 3), Some(1));
     let (shared, mut first, roots) = open_with_roots(rt.alloc(), image)?;
     assert!(rt; roots.as_slice() == [0].as_slice());
     let mutator = first.split(&shared, 0, &[]);
@@ -141,8 +142,8 @@ fn a_chunk_is_scanned_on_one_thread_while_another_makes_an_object(
     let (marker, (mutator, made)) = scan_and_new(&rt, &shared, (marker, chunk), mutator);
     let image = close_three(shared, first, mutator, marker);
     assert!(rt; made);
-    assert_eq!(rt; word_at(&image, 32), Some(3));
-    assert_eq!(rt; word_at(&image, 3), Some(2));
-    assert_eq!(rt; word_at(&image, 40), Some(3));
+    assert_is(&rt, word_at(&image, 32), Some(3));
+    assert_is(&rt, word_at(&image, 3), Some(2));
+    assert_is(&rt, word_at(&image, 40), Some(3));
     Ok(())
 }

@@ -18,6 +18,7 @@ use object_rule::name_trusted;
 use plain_table::{OutOfMemory, Policy};
 use std::alloc::Global;
 use std::process::Abort;
+use worked_asserts::assert_is;
 use worked_tables::{close_both, close_three, open_fresh};
 
 /// An image in a cycle with no area. Object 0, the root, refers to object 1 by its reference 3. Its external field 0 and its
@@ -38,7 +39,7 @@ fn image_to_mark(rt: &impl Abort, alloc: Global) -> Result<Image, OutOfMemory>
     forget(rt, &shared, &mut s, 1);
     let image = close_both(shared, first, s);
     let (image, area) = begin_on(rt, alloc, image, FOUR, Policy::Never)?;
-    assert_eq!(rt; area.start(), None);
+    assert_is(rt, area.start(), None);
     Ok(image)
 }
 
@@ -51,9 +52,9 @@ fn read_references(rt: &impl Abort, shared: &Shared, s: &mut Session)
     ensures hands { (view s.new).hands ≡ (view s.old).hands }
 {
     let none = ref_at(shared, s, 0, 0);
-    assert_eq!(rt; none, None);
+    assert_is(rt, none, None);
     let some = ref_at(shared, s, 0, 3);
-    assert_eq!(rt; some, Some(1));
+    assert_is(rt, some, Some(1));
 }
 
 /// Marks by the trusted field of object 0 twice.
@@ -65,9 +66,9 @@ fn mark_trusted(rt: &impl Abort, shared: &Shared, s: &mut Session)
     ensures hands { (view s.new).hands ≡ (view s.old).hands }
 {
     let set = mark_by(rt, shared, s, 0, 2, 0x0001_0000);
-    assert_eq!(rt; set, Mark::Set);
+    assert_is(rt, set, Mark::Set);
     let already = mark_by(rt, shared, s, 0, 2, 0x0001_0000);
-    assert_eq!(rt; already, Mark::Already);
+    assert_is(rt, already, Mark::Already);
 }
 
 /// Marks and evacuates by the external fields of object 0: a cell, which has not to move, and a word past the limit.
@@ -79,13 +80,13 @@ fn mark_external(rt: &impl Abort, shared: &Shared, s: &mut Session)
     ensures hands { (view s.new).hands ≡ (view s.old).hands }
 {
     let set = mark_by(rt, shared, s, 0, 0, 0x0001_0000);
-    assert_eq!(rt; set, Mark::Set);
+    assert_is(rt, set, Mark::Set);
     let stays = evacuate_by(rt, shared, s, 0, 0, 0x0001_0000);
-    assert_eq!(rt; stays, Evacuated::NotNeeded);
+    assert_is(rt, stays, Evacuated::NotNeeded);
     let none = mark_by(rt, shared, s, 0, 1, 0xffff_0000);
-    assert_eq!(rt; none, Mark::NoCell);
+    assert_is(rt, none, Mark::NoCell);
     let stays = evacuate_by(rt, shared, s, 0, 1, 0xffff_0000);
-    assert_eq!(rt; stays, Evacuated::NotNeeded);
+    assert_is(rt, stays, Evacuated::NotNeeded);
 }
 
 #[test]
@@ -98,10 +99,10 @@ fn each_answer_of_the_calls_on_an_object_of_the_hands(rt: HostRuntime) -> Result
     mark_trusted(&rt, &shared, &mut s);
     mark_external(&rt, &shared, &mut s);
     let image = close_both(shared, first, s);
-    assert_eq!(rt; headers(&rt, &image), [1, 0, 3, 3]);
-    assert_eq!(rt; word_at(&rt, &image, 65), 0x400f_0000_0000_00c1);
-    assert_eq!(rt; word_at(&rt, &image, 73), 0x400f_0000_0000_00d1);
-    assert_eq!(rt; word_at(&rt, &image, 74), 0x000f_0000_0000_00d2);
+    assert_is(&rt, headers(&rt, &image), [1, 0, 3, 3]);
+    assert_is(&rt, word_at(&rt, &image, 65), 0x400f_0000_0000_00c1);
+    assert_is(&rt, word_at(&rt, &image, 73), 0x400f_0000_0000_00d1);
+    assert_is(&rt, word_at(&rt, &image, 74), 0x000f_0000_0000_00d2);
     Ok(())
 }
 
@@ -113,7 +114,7 @@ fn mark_to_share(rt: &impl Abort, shared: &Shared, s: &mut Session)
     ensures caller { IsOf shared.now s.new }
     ensures same { SameCaller (view s.old) (view s.new) }
 {
-    assert_eq!(rt; s.held(0), Some(0));
+    assert_is(rt, s.held(0), Some(0));
     let word = name_trusted(shared, s, 0) as u32;
     if word == 0 {
         panic!(rt; "the field names no cell");
@@ -128,12 +129,12 @@ fn a_cell_to_be_shared_is_marked_by_its_mutator(rt: HostRuntime) -> Result<(), O
     assert!(rt; roots.as_slice() == [0].as_slice());
     let mut marker = first.split(&shared, 8, roots.as_slice());
     let mut mutator = first.split(&shared, 0, &[]);
-    assert_eq!(rt; mutator.in_cycle(), true);
+    assert_is(&rt, mutator.in_cycle(), true);
     mark_to_share(&rt, &shared, &mut mutator);
     mark_to_share(&rt, &shared, &mut mutator);
     let already = mark_by(&rt, &shared, &mut marker, 0, 2, 0x0001_0000);
-    assert_eq!(rt; already, Mark::Already);
+    assert_is(&rt, already, Mark::Already);
     let image = close_three(shared, first, mutator, marker);
-    assert_eq!(rt; word_at(&rt, &image, 73), 0x400f_0000_0000_00d1);
+    assert_is(&rt, word_at(&rt, &image, 73), 0x400f_0000_0000_00d1);
     Ok(())
 }

@@ -17,6 +17,7 @@ use plain_table::{OutOfMemory, Policy};
 use std::alloc::Global;
 use std::process::Abort;
 use sweeper::Area;
+use worked_asserts::assert_is;
 use worked_tables::{close_both, close_three, open_fresh};
 
 /// An image in a cycle whose area begins at 4, with objects 0 and 1, whose four external fields name the cells at 1 to 4: no index
@@ -47,11 +48,11 @@ fn evacuate_both(rt: &impl Abort, shared: &Shared, s: &mut Session)
     ensures hands { (view s.new).hands ≡ (view s.old).hands }
 {
     let aborted = evacuate_by(rt, shared, s, 1, 1, 0x0004_0000);
-    assert_eq!(rt; aborted, Evacuated::Aborted);
+    assert_is(rt, aborted, Evacuated::Aborted);
     let again = evacuate_by(rt, shared, s, 1, 1, 0x0004_0000);
-    assert_eq!(rt; again, Evacuated::Aborted);
+    assert_is(rt, again, Evacuated::Aborted);
     let stays = evacuate_by(rt, shared, s, 0, 0, 0x0001_0000);
-    assert_eq!(rt; stays, Evacuated::NotNeeded);
+    assert_is(rt, stays, Evacuated::NotNeeded);
 }
 
 /// Marks the cell at index 4 twice.
@@ -63,9 +64,9 @@ fn mark_twice(rt: &impl Abort, shared: &Shared, s: &mut Session)
     ensures hands { (view s.new).hands ≡ (view s.old).hands }
 {
     let set = mark_by(rt, shared, s, 1, 1, 0x0004_0000);
-    assert_eq!(rt; set, Mark::Set);
+    assert_is(rt, set, Mark::Set);
     let already = mark_by(rt, shared, s, 1, 1, 0x0004_0000);
-    assert_eq!(rt; already, Mark::Already);
+    assert_is(rt, already, Mark::Already);
 }
 
 /// Marks by a forged word at whose index no cell stands.
@@ -76,7 +77,7 @@ fn mark_forged(rt: &impl Abort, shared: &Shared, s: &mut Session)
     ensures same { SameCaller (view s.old) (view s.new) }
 {
     let none = mark_by(rt, shared, s, 0, 0, 0x0005_0000);
-    assert_eq!(rt; none, Mark::NoCell);
+    assert_is(rt, none, Mark::NoCell);
 }
 
 #[test]
@@ -84,7 +85,7 @@ fn an_evacuation_with_no_index_below_the_area_aborts_the_compaction(
     rt: HostRuntime,
 ) -> Result<(), OutOfMemory> {
     let (image, area) = image_without_room(&rt, rt.alloc())?;
-    assert_eq!(rt; area.start(), Some(4));
+    assert_is(&rt, area.start(), Some(4));
     let (shared, mut first, roots) = open_with_roots(rt.alloc(), image)?;
     assert!(rt; roots.as_slice() == [0, 1].as_slice());
     let mut marker = first.split(&shared, 8, roots.as_slice());
@@ -94,7 +95,7 @@ fn an_evacuation_with_no_index_below_the_area_aborts_the_compaction(
     forge_word(&rt, &shared, &mut mutator, 0, 0, 0x0005_0000);
     mark_forged(&rt, &shared, &mut marker);
     let image = close_three(shared, first, marker, mutator);
-    assert_eq!(rt; word_at(&rt, &image, 52), 0x400f_0000_0000_00c4);
-    assert_eq!(rt; word_at(&rt, &image, 49), 0x000f_0000_0000_00c1);
+    assert_is(&rt, word_at(&rt, &image, 52), 0x400f_0000_0000_00c4);
+    assert_is(&rt, word_at(&rt, &image, 49), 0x000f_0000_0000_00c1);
     Ok(())
 }

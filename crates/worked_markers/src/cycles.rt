@@ -18,6 +18,7 @@ use plain_table::{OutOfMemory, Policy, SweepReport};
 use std::alloc::Global;
 use std::process::Abort;
 use sweeper::{Area, begin, late_mark, sweep};
+use worked_asserts::assert_is;
 
 /// Begins a cycle on an image of known sizes outside a cycle.
 pub(crate) fn begin_on(
@@ -36,7 +37,7 @@ pub(crate) fn begin_on(
     ensures owed { IfOk result (λ t. AreOwed t.0.words.items t.1.roots.items) }
 {
     assert_shape(rt, &image, shape);
-    assert_eq!(rt; word_at(rt, &image, 4), 0);
+    assert_is(rt, word_at(rt, &image, 4), 0);
     let area = begin(alloc, &mut image, policy)?;
     Ok((image, area))
 }
@@ -123,7 +124,7 @@ fn assert_shaded(rt: &impl Abort, image: &Image, object: u32)
 {
     assert!(rt; u64::from(object) < word_at(rt, image, 3));
     let header = word_at(rt, image, 32 + 8 * object as usize);
-    assert_eq!(rt; header, 1);
+    assert_is(rt, header, 1);
 }
 
 /// Finishes a cycle after a phase, on an image of known sizes in which each shaded object is scanned.
@@ -140,7 +141,7 @@ pub(crate) fn finish_settled(
     ensures shape { image.new.shape ≡ shape }
 {
     assert_shape(rt, image, shape);
-    assert_eq!(rt; word_at(rt, image, 4), 1);
+    assert_is(rt, word_at(rt, image, 4), 1);
     assert_left(rt, image, None);
     finish(image, area, &[])
 }
@@ -160,7 +161,7 @@ pub(crate) fn finish_with_one(
     ensures shape { image.new.shape ≡ shape }
 {
     assert_shape(rt, image, shape);
-    assert_eq!(rt; word_at(rt, image, 4), 1);
+    assert_is(rt, word_at(rt, image, 4), 1);
     assert_left(rt, image, Some(left));
     assert_shaded(rt, image, left);
     finish(image, area, &[left])

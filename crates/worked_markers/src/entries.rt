@@ -10,6 +10,7 @@ use graph_steps::{drop_var, link, new_object};
 use plain_table::Reply;
 use std::process::Abort;
 use trusted_steps::{publish, tnew};
+use worked_asserts::assert_is;
 
 /// Makes object `count` in a variable.
 pub(crate) fn make(rt: &impl Abort, shared: &Shared, s: &mut Session, var: u32, count: u32)
@@ -20,7 +21,7 @@ pub(crate) fn make(rt: &impl Abort, shared: &Shared, s: &mut Session, var: u32, 
     ensures same { SameCaller (view s.old) (view s.new) }
 {
     let made = new_object(shared, s, var);
-    assert_eq!(rt; made, Reply::Obj(count));
+    assert_is(rt, made, Reply::Obj(count));
 }
 
 /// Makes the objects 0 to 3 in the variables 0 to 3.
@@ -46,7 +47,7 @@ pub(crate) fn bind(rt: &impl Abort, shared: &Shared, s: &mut Session, var: u32, 
     ensures same { SameCaller (view s.old) (view s.new) }
 {
     let said = init(shared, s, var, f, tag(rt, 0x0f), value);
-    assert_eq!(rt; said, Reply::Ok);
+    assert_is(rt, said, Reply::Ok);
 }
 
 /// Makes a published trusted cell of the tag 0f, which the trusted field of a variable's object names.
@@ -65,9 +66,9 @@ pub(crate) fn bind_published(
     ensures same { SameCaller (view s.old) (view s.new) }
 {
     let filled = tnew(shared, s, var, tag(rt, 0x0f), value);
-    assert_eq!(rt; filled, Reply::Ok);
+    assert_is(rt, filled, Reply::Ok);
     let published = publish(shared, s, var);
-    assert_eq!(rt; published, Reply::Ok);
+    assert_is(rt, published, Reply::Ok);
 }
 
 /// Writes a word into an external field of a variable's object.
@@ -86,7 +87,7 @@ pub(crate) fn forge_word(
     ensures same { SameCaller (view s.old) (view s.new) }
 {
     let forged = forge(shared, s, var, f, word);
-    assert_eq!(rt; forged, Reply::Ok);
+    assert_is(rt, forged, Reply::Ok);
 }
 
 /// Links reference `k` of one variable's object to another's, outside a cycle.
@@ -106,8 +107,8 @@ pub(crate) fn link_to(
     ensures same { SameCaller (view s.old) (view s.new) }
 {
     let linked = link(shared, s, var, k, Some(target));
-    assert_eq!(rt; linked.reply, Reply::Ok);
-    assert_eq!(rt; linked.shaded, None);
+    assert_is(rt, linked.reply, Reply::Ok);
+    assert_is(rt, linked.shaded, None);
 }
 
 /// Drops what a variable holds.
@@ -119,5 +120,5 @@ pub(crate) fn forget(rt: &impl Abort, shared: &Shared, s: &mut Session, var: u32
     ensures same { SameCaller (view s.old) (view s.new) }
 {
     let dropped = drop_var(shared, s, var);
-    assert_eq!(rt; dropped, Reply::Ok);
+    assert_is(rt, dropped, Reply::Ok);
 }

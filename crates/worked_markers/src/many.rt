@@ -14,6 +14,7 @@ use graph_steps::{fetch, fetch_global, link_global, shade};
 use plain_table::{OutOfMemory, Policy, Reply};
 use std::alloc::Global;
 use std::process::Abort;
+use worked_asserts::assert_is;
 use worked_tables::{close_both, open_fresh};
 
 /// An external segment of four entries and a trusted one, and 501 objects: 251 holders, and an own object of each but the last.
@@ -38,7 +39,7 @@ fn add_holder(rt: &impl Abort, shared: &Shared, s: &mut Session, made: u32)
     make(rt, shared, s, 2, made + 1);
     link_to(rt, shared, s, 0, 0, 2);
     let next = fetch(shared, s, 0, 0, 0);
-    assert_eq!(rt; next, Reply::Obj(made + 1));
+    assert_is(rt, next, Reply::Obj(made + 1));
 }
 
 /// Makes the holders from object 0 on and their own objects, of which global 0 and variable 0 then hold the first holder.
@@ -50,14 +51,14 @@ fn make_holders(rt: &impl Abort, shared: &Shared, s: &mut Session)
 {
     make(rt, shared, s, 0, 0);
     let linked = link_global(shared, s, 0, Some(0));
-    assert_eq!(rt; linked, Reply::Ok);
+    assert_is(rt, linked, Reply::Ok);
     for number in 0..250u32 {
         add_holder(rt, shared, s, 2 * number + 1);
     }
     forget(rt, shared, s, 1);
     forget(rt, shared, s, 2);
     let fetched = fetch_global(shared, s, 0, 0);
-    assert_eq!(rt; fetched, Reply::Obj(0));
+    assert_is(rt, fetched, Reply::Obj(0));
 }
 
 /// The holders and their own objects in a cycle with no area, whose root is object 0.
@@ -87,7 +88,7 @@ fn shade_own(rt: &impl Abort, shared: &Shared, s: &mut Session) -> u32
     let Reply::Obj(object) = fetch(shared, s, 1, 0, 1) else {
         panic!(rt; "the holder has no own object");
     };
-    assert_eq!(rt; s.held(1), Some(object));
+    assert_is(rt, s.held(1), Some(object));
     let white = shade(shared, s, object);
     assert!(rt; white);
     let Reply::Obj(_) = fetch(shared, s, 0, 0, 0) else {

@@ -16,6 +16,7 @@ use plain_table::{OutOfMemory, Policy};
 use std::alloc::Global;
 use std::process::Abort;
 use sweeper::Area;
+use worked_asserts::assert_is;
 use worked_tables::{close_both, open_fresh};
 
 /// Makes a chain from object 0, which variable 0 holds, over 1 to 2, and object 3 apart. External field 0 of each object names a
@@ -54,12 +55,12 @@ fn chain(rt: &impl Abort, alloc: Global) -> Result<(Image, Area), OutOfMemory>
 
 /// Asserts that the cells of the chain are marked and the one of the object apart is not.
 fn assert_marked(rt: &impl Abort, image: &Image) {
-    assert_eq!(rt; headers(rt, image), [3, 3, 3, 0]);
-    assert_eq!(rt; word_at(rt, image, 65), 0x400f_0000_0000_00c1);
-    assert_eq!(rt; word_at(rt, image, 66), 0x400f_0000_0000_00c2);
-    assert_eq!(rt; word_at(rt, image, 67), 0x400f_0000_0000_00c3);
-    assert_eq!(rt; word_at(rt, image, 68), 0x000f_0000_0000_00c4);
-    assert_eq!(rt; word_at(rt, image, 73), 0x400f_0000_0000_00d1);
+    assert_is(rt, headers(rt, image), [3, 3, 3, 0]);
+    assert_is(rt, word_at(rt, image, 65), 0x400f_0000_0000_00c1);
+    assert_is(rt, word_at(rt, image, 66), 0x400f_0000_0000_00c2);
+    assert_is(rt, word_at(rt, image, 67), 0x400f_0000_0000_00c3);
+    assert_is(rt, word_at(rt, image, 68), 0x000f_0000_0000_00c4);
+    assert_is(rt, word_at(rt, image, 73), 0x400f_0000_0000_00d1);
 }
 
 #[test]
@@ -71,8 +72,8 @@ fn a_run_scans_each_object_that_the_root_reaches(rt: HostRuntime) -> Result<(), 
     let mut marker = Marker::new(rt.alloc(), 4)?;
     let scans = marker.run(&shared, &mut s, roots.as_slice());
     let none = marker.run(&shared, &mut s, &[]);
-    assert_eq!(rt; scans, 3);
-    assert_eq!(rt; none, 0);
+    assert_is(&rt, scans, 3);
+    assert_is(&rt, none, 0);
     let mut image = close_both(shared, first, s);
     assert_marked(&rt, &image);
     let report = finish_settled(&rt, &mut image, area, FOUR);
@@ -90,9 +91,9 @@ fn a_run_over_no_object_leaves_the_root_to_late_marking(
     let mut s = first.split(&shared, 8, roots.as_slice());
     let mut marker = Marker::new(rt.alloc(), 4)?;
     let none = marker.run(&shared, &mut s, &[]);
-    assert_eq!(rt; none, 0);
+    assert_is(&rt, none, 0);
     let mut image = close_both(shared, first, s);
-    assert_eq!(rt; headers(&rt, &image), [1, 0, 0, 0]);
+    assert_is(&rt, headers(&rt, &image), [1, 0, 0, 0]);
     let report = finish_with_one(&rt, &mut image, area, FOUR, 0);
     assert!(rt; report.kept == 3 && report.freed == 1);
     assert!(rt; report.trusted == 1 && report.tfreed == 0);

@@ -18,6 +18,7 @@ use plain_table::{Compaction, OutOfMemory, Policy, Reply};
 use std::alloc::Global;
 use std::process::Abort;
 use sweeper::Area;
+use worked_asserts::assert_is;
 use worked_tables::{close_both, close_three, open, open_fresh};
 
 /// Makes the objects 0 to 3, whose first seven external fields name the cells at 1 to 7. Then only the fields 0 and 6 are left.
@@ -63,11 +64,12 @@ fn scan_both(rt: &impl Abort, shared: &Shared, s: &mut Session)
     ensures same { SameCaller (view s.old) (view s.new) }
 {
     let low = scan_lone(rt, shared, s, 0);
-    assert_eq!(rt; low, (Evacuated::NotNeeded, Evacuated::NotNeeded));
+    assert_is(rt, low, (Evacuated::NotNeeded, Evacuated::NotNeeded));
     let high = scan_lone(rt, shared, s, 3);
-    assert_eq!(rt;
+    assert_is(
+        rt,
         high,
-        (Evacuated::Placed { index: 2 }, Evacuated::NotNeeded)
+        (Evacuated::Placed { index: 2 }, Evacuated::NotNeeded),
     );
 }
 
@@ -84,7 +86,7 @@ fn forged_after_visit(
     ensures room { IfOk result (λ t. HasRoom t.1 FOUR.objects) }
 {
     let (image, area) = image_to_move(rt, alloc)?;
-    assert_eq!(rt; area.start(), Some(4));
+    assert_is(rt, area.start(), Some(4));
     let (shared, mut first, roots) = open_with_roots(alloc, image)?;
     assert!(rt; roots.as_slice() == [0, 3].as_slice());
     let mut marker = first.split(&shared, 8, roots.as_slice());
@@ -92,7 +94,7 @@ fn forged_after_visit(
     scan_both(rt, &shared, &mut marker);
     forge_word(rt, &shared, &mut mutator, var, f, word);
     let image = close_three(shared, first, marker, mutator);
-    assert_eq!(rt; headers(rt, &image), [3, 0, 0, 3]);
+    assert_is(rt, headers(rt, &image), [3, 0, 0, 3]);
     Ok((image, area))
 }
 
@@ -104,15 +106,15 @@ fn load_moved(rt: &impl Abort, shared: &Shared, s: &mut Session)
     ensures same { SameCaller (view s.old) (view s.new) }
 {
     let value = load(shared, s, 3, 0, only(rt, 0x0f));
-    assert_eq!(rt; value, Reply::Value(0xc7));
+    assert_is(rt, value, Reply::Value(0xc7));
     let moved = name(shared, s, 3, 0);
-    assert_eq!(rt; moved, Reply::Word(0x0002_0000));
+    assert_is(rt, moved, Reply::Word(0x0002_0000));
     let forged = name(shared, s, 0, 1);
-    assert_eq!(rt; forged, Reply::Word(0x0007_0000));
+    assert_is(rt, forged, Reply::Word(0x0007_0000));
     let fault = load(shared, s, 0, 1, only(rt, 0x0f));
-    assert_eq!(rt; fault, Reply::Fault);
+    assert_is(rt, fault, Reply::Fault);
     let kept = load(shared, s, 0, 0, only(rt, 0x0f));
-    assert_eq!(rt; kept, Reply::Value(0xc1));
+    assert_is(rt, kept, Reply::Value(0xc1));
 }
 
 #[test]
@@ -122,13 +124,13 @@ fn a_word_that_is_forged_after_the_visit_does_not_follow_the_moved_cell(
     let (mut image, area) = forged_after_visit(&rt, rt.alloc(), 0, 1, 0x0007_0000)?;
     let report = finish_settled(&rt, &mut image, area, FOUR);
     assert!(rt; report.kept == 2 && report.freed == 0 && report.moved == 1);
-    assert_eq!(rt; report.compaction, Compaction::Done);
+    assert_is(&rt, report.compaction, Compaction::Done);
     let (shared, mut first) = open(rt.alloc(), image)?;
     let mut s = first.split(&shared, 0, &[]);
     load_moved(&rt, &shared, &mut s);
     let image = close_both(shared, first, s);
-    assert_eq!(rt; word_at(&rt, &image, 61), 0x0002_0000);
-    assert_eq!(rt; word_at(&rt, &image, 66), 0x000f_0000_0000_00c7);
+    assert_is(&rt, word_at(&rt, &image, 61), 0x0002_0000);
+    assert_is(&rt, word_at(&rt, &image, 66), 0x000f_0000_0000_00c7);
     Ok(())
 }
 
@@ -140,7 +142,7 @@ fn load_freed(rt: &impl Abort, shared: &Shared, s: &mut Session)
     ensures same { SameCaller (view s.old) (view s.new) }
 {
     let fault = raw_load(shared, s, 0x0007_0000, only(rt, 0x0f));
-    assert_eq!(rt; fault, Reply::Fault);
+    assert_is(rt, fault, Reply::Fault);
 }
 
 #[test]
@@ -150,11 +152,11 @@ fn a_cell_whose_field_is_forged_away_after_the_visit_is_freed(
     let (mut image, area) = forged_after_visit(&rt, rt.alloc(), 3, 0, 0)?;
     let report = finish_settled(&rt, &mut image, area, FOUR);
     assert!(rt; report.kept == 1 && report.freed == 1 && report.moved == 0 && report.segs == 1);
-    assert_eq!(rt; report.compaction, Compaction::Done);
+    assert_is(&rt, report.compaction, Compaction::Done);
     let (shared, mut first) = open(rt.alloc(), image)?;
     let mut s = first.split(&shared, 0, &[]);
     load_freed(&rt, &shared, &mut s);
     let image = close_both(shared, first, s);
-    assert_eq!(rt; word_at(&rt, &image, 61), 0);
+    assert_is(&rt, word_at(&rt, &image, 61), 0);
     Ok(())
 }

@@ -9,6 +9,7 @@ ghost use Rattle.mark_rule.specs.Marking.{InHands};
 use entry_base::{Session, Shared};
 use mark_steps::{Evacuated, Mark, evacuate, mark, ref_at, scanned, word_at};
 use std::process::Abort;
+use worked_asserts::assert_is;
 
 /// Reads the word of a field of an object of the hands, which is a known one, and marks by it.
 pub(crate) fn mark_by(
@@ -27,7 +28,7 @@ pub(crate) fn mark_by(
     ensures hands { (view s.new).hands ≡ (view s.old).hands }
 {
     let word = word_at(shared, s, object, f);
-    assert_eq!(rt; word, known);
+    assert_is(rt, word, known);
     mark(shared, s, object, f, word)
 }
 
@@ -48,7 +49,7 @@ pub(crate) fn evacuate_by(
     ensures hands { (view s.new).hands ≡ (view s.old).hands }
 {
     let word = word_at(shared, s, object, f);
-    assert_eq!(rt; word, known);
+    assert_is(rt, word, known);
     evacuate(shared, s, object, f, word)
 }
 
@@ -91,7 +92,7 @@ fn pass_empty(rt: &impl Abort, shared: &Shared, s: &mut Session, object: u32, k:
     ensures passed { PassedReference (view s.new) object k }
 {
     let held = ref_at(shared, s, object, k);
-    assert_eq!(rt; held, None);
+    assert_is(rt, held, None);
 }
 
 /// Scans an object of the hands that has no reference. The answer is what the evacuations of its two external fields did.

@@ -19,6 +19,7 @@ use std::alloc::Global;
 use std::process::Abort;
 use std::thread::{Threads, join};
 use sweeper::Area;
+use worked_asserts::assert_is;
 use worked_tables::{close_both, close_three, open_fresh};
 
 /// An image in a cycle with no area, whose roots 0 and 1 both refer to object 2, which refers to object 3. External field 0 of each
@@ -97,11 +98,11 @@ fn two_markers_scan_each_object_once(rt: HostRuntime) -> Result<(), OutOfMemory>
     let markers = (Marker::new(rt.alloc(), 4)?, Marker::new(rt.alloc(), 4)?);
     let ((one, here), (two, there)) = both_mark(&rt, &shared, (one, two), markers);
     assert!(rt; 1 <= here && here <= 3);
-    assert_eq!(rt; here.saturating_add(there), 4);
+    assert_is(&rt, here.saturating_add(there), 4);
     let mut image = close_three(shared, first, one, two);
-    assert_eq!(rt; headers(&rt, &image), [3, 3, 3, 3]);
-    assert_eq!(rt; word_at(&rt, &image, 67), 0x400f_0000_0000_00c3);
-    assert_eq!(rt; word_at(&rt, &image, 68), 0x400f_0000_0000_00c4);
+    assert_is(&rt, headers(&rt, &image), [3, 3, 3, 3]);
+    assert_is(&rt, word_at(&rt, &image, 67), 0x400f_0000_0000_00c3);
+    assert_is(&rt, word_at(&rt, &image, 68), 0x400f_0000_0000_00c4);
     let report = finish_settled(&rt, &mut image, area, FOUR);
     assert!(rt; report.kept == 4 && report.freed == 0);
     Ok(())

@@ -16,6 +16,7 @@ use marker::{Dealt, Marker};
 use plain_table::OutOfMemory;
 use std::alloc::Global;
 use std::process::Abort;
+use worked_asserts::assert_is;
 use worked_tables::close_three;
 
 /// Takes the last thief of a list.
@@ -116,7 +117,7 @@ fn the_first_of_two_markers_steals_all_chunks(rt: HostRuntime) -> Result<(), Out
     let (shared, mut first, roots) = open_with_roots(rt.alloc(), image)?;
     assert!(rt; roots.as_slice() == [0].as_slice());
     let mut mutator = first.split(&shared, 0, &[]);
-    assert_eq!(rt; mutator.in_cycle(), true);
+    assert_is(&rt, mutator.in_cycle(), true);
     let chunks = eight_chunks(&rt, rt.alloc(), &shared, &mut mutator)?;
     let mut late = first.split(&shared, 8, &[]);
     let (pool, thief, other) = pool_of_two(&rt, rt.alloc(), &shared, chunks)?;
@@ -131,10 +132,10 @@ fn the_first_of_two_markers_steals_all_chunks(rt: HostRuntime) -> Result<(), Out
         (thief, other),
     );
     let image = close_three(shared, first, mutator, late);
-    assert_eq!(rt; word_at(&rt, &image, 32), 1);
-    assert_eq!(rt; word_at(&rt, &image, 40), 3);
-    assert_eq!(rt; word_at(&rt, &image, 48), 0);
-    assert_eq!(rt; word_at(&rt, &image, 32 + 8 * 499), 3);
-    assert_eq!(rt; word_at(&rt, &image, 32 + 8 * 500), 0);
+    assert_is(&rt, word_at(&rt, &image, 32), 1);
+    assert_is(&rt, word_at(&rt, &image, 40), 3);
+    assert_is(&rt, word_at(&rt, &image, 48), 0);
+    assert_is(&rt, word_at(&rt, &image, 32 + 8 * 499), 3);
+    assert_is(&rt, word_at(&rt, &image, 32 + 8 * 500), 0);
     Ok(())
 }

@@ -22,6 +22,7 @@ use std::alloc::Global;
 use std::process::Abort;
 use std::thread::{Threads, join};
 use sweeper::Area;
+use worked_asserts::assert_is;
 use worked_tables::{close_both, close_three, open, open_fresh};
 
 /// An image in a cycle with no area. Object 0, which variable 0 holds, refers to object 1, which refers to object 2. External field
@@ -54,9 +55,9 @@ fn fetch_both(rt: &impl Abort, shared: &Shared, s: &mut Session)
     ensures same { SameCaller (view s.old) (view s.new) }
 {
     let one = fetch(shared, s, 1, 0, 0);
-    assert_eq!(rt; one, Reply::Obj(1));
+    assert_is(rt, one, Reply::Obj(1));
     let two = fetch(shared, s, 2, 1, 0);
-    assert_eq!(rt; two, Reply::Obj(2));
+    assert_is(rt, two, Reply::Obj(2));
 }
 
 /// Moves object 2 from object 1 to object 0: links it there, which shades it, and unlinks it here. The answer is object 2 where it
@@ -69,12 +70,12 @@ fn move_link(rt: &impl Abort, shared: &Shared, s: &mut Session) -> Option<u32>
     ensures same { SameCaller (view s.old) (view s.new) }
 {
     let linked = link(shared, s, 0, 1, Some(2));
-    assert_eq!(rt; linked.reply, Reply::Ok);
+    assert_is(rt, linked.reply, Reply::Ok);
     let unlinked = link(shared, s, 1, 0, None);
-    assert_eq!(rt; unlinked.reply, Reply::Ok);
-    assert_eq!(rt; s.held(2), Some(2));
+    assert_is(rt, unlinked.reply, Reply::Ok);
+    assert_is(rt, s.held(2), Some(2));
     let white = shade(shared, s, 2);
-    assert_eq!(rt; white, false);
+    assert_is(rt, white, false);
     linked.shaded
 }
 
@@ -142,7 +143,7 @@ fn load_value(rt: &impl Abort, shared: &Shared, s: &mut Session, var: u32, f: u3
     ensures same { SameCaller (view s.old) (view s.new) }
 {
     let loaded = load(shared, s, var, f, only(rt, 0x0f));
-    assert_eq!(rt; loaded, Reply::Value(value));
+    assert_is(rt, loaded, Reply::Value(value));
 }
 
 /// Loads by the fields of all live objects: 0, 2 and 3.
@@ -153,7 +154,7 @@ fn load_all(rt: &impl Abort, shared: &Shared, s: &mut Session)
     ensures same { SameCaller (view s.old) (view s.new) }
 {
     let two = fetch(shared, s, 2, 0, 1);
-    assert_eq!(rt; two, Reply::Obj(2));
+    assert_is(rt, two, Reply::Obj(2));
     load_value(rt, shared, s, 0, 0, 0xc1);
     load_value(rt, shared, s, 0, 1, 0xc3);
     load_value(rt, shared, s, 2, 0, 0xc2);
@@ -180,14 +181,14 @@ fn a_mutator_works_while_a_marker_runs(rt: HostRuntime) -> Result<(), OutOfMemor
     assert!(rt; roots.as_slice() == [0].as_slice());
     let one = first.split(&shared, 8, roots.as_slice());
     let two = first.split(&shared, 0, &[]);
-    assert_eq!(rt; two.in_cycle(), true);
+    assert_is(&rt, two.in_cycle(), true);
     let marker = Marker::new(rt.alloc(), 4)?;
     let ((one, scans), (two, shaded)) = mark_and_work(&rt, &shared, one, marker, two);
     let mut image = close_three(shared, first, one, two);
     let left = headers(&rt, &image);
     assert!(rt; left[0] == 3 && left[1] == 3 && left[3] == 3);
     let own = if shaded == None { 3 } else { 2 };
-    assert_eq!(rt; scans, own);
+    assert_is(&rt, scans, own);
     let report = finish(&rt, &mut image, area, shaded);
     assert!(rt; report.kept == 5 && report.freed == 0);
     load_after(&rt, rt.alloc(), image)

@@ -3,11 +3,12 @@
 ghost use Rattle.std.specs.Prelude.{◌≤◌, IfOk};
 ghost use Rattle.mutator_calls.specs.Calls.{IsReady};
 
-use mutator_calls::Mutator;
 use entry_word::Shape;
+use mutator_calls::Mutator;
 use plain_table::{OutOfMemory, Reply};
 use std::alloc::Global;
 use tag_set::{Range, Tag};
+use worked_asserts::assert_is;
 
 /// The range of one tag.
 fn only(byte: u8) -> Range
@@ -36,13 +37,17 @@ fn with_cell(alloc: Global) -> Result<Mutator, OutOfMemory>
 fn a_cell_is_read_and_written_by_its_field(rt: HostRuntime) -> Result<(), OutOfMemory> {
     let mut mutator = with_cell(rt.alloc())?;
     let range = only(0x0f);
-    assert_eq!(rt; mutator.name(0, 0), Reply::Word(0x0001_0000));
-    assert_eq!(rt; mutator.load(0, 0, range), Reply::Value(7));
-    assert_eq!(rt; mutator.store(0, 0, range, 8), Reply::Ok);
-    assert_eq!(rt; mutator.swap(0, 0, range, 9), Reply::Value(8));
-    assert_eq!(rt; mutator.raw_store(0x0001_0000, range, 10), Reply::Ok);
-    assert_eq!(rt; mutator.load(0, 0, range), Reply::Value(10));
-    assert_eq!(rt; mutator.image.words.get(49), Some(&0x400f_0000_0000_000a));
+    assert_is(&rt, mutator.name(0, 0), Reply::Word(0x0001_0000));
+    assert_is(&rt, mutator.load(0, 0, range), Reply::Value(7));
+    assert_is(&rt, mutator.store(0, 0, range, 8), Reply::Ok);
+    assert_is(&rt, mutator.swap(0, 0, range, 9), Reply::Value(8));
+    assert_is(&rt, mutator.raw_store(0x0001_0000, range, 10), Reply::Ok);
+    assert_is(&rt, mutator.load(0, 0, range), Reply::Value(10));
+    assert_is(
+        &rt,
+        mutator.image.words.get(49),
+        Some(&0x400f_0000_0000_000a),
+    );
     Ok(())
 }
 
@@ -67,11 +72,11 @@ fn any_word_names_an_entry_by_its_upper_bits(rt: HostRuntime) -> Result<(), OutO
 fn a_tag_outside_the_range_is_a_fault(rt: HostRuntime) -> Result<(), OutOfMemory> {
     let mut mutator = with_cell(rt.alloc())?;
     let other = only(0x17);
-    assert_eq!(rt; mutator.load(0, 0, other), Reply::Fault);
-    assert_eq!(rt; mutator.store(0, 0, other, 8), Reply::Fault);
-    assert_eq!(rt; mutator.swap(0, 0, other, 8), Reply::Fault);
-    assert_eq!(rt; mutator.raw_store(0x0001_0000, other, 8), Reply::Fault);
-    assert_eq!(rt; mutator.load(0, 0, only(0x0f)), Reply::Value(7));
+    assert_is(&rt, mutator.load(0, 0, other), Reply::Fault);
+    assert_is(&rt, mutator.store(0, 0, other, 8), Reply::Fault);
+    assert_is(&rt, mutator.swap(0, 0, other, 8), Reply::Fault);
+    assert_is(&rt, mutator.raw_store(0x0001_0000, other, 8), Reply::Fault);
+    assert_is(&rt, mutator.load(0, 0, only(0x0f)), Reply::Value(7));
     Ok(())
 }
 
@@ -80,16 +85,16 @@ fn a_forged_field_names_what_its_word_names(rt: HostRuntime) -> Result<(), OutOf
     let mut mutator = with_cell(rt.alloc())?;
     let range = only(0x0f);
     assert_eq!(rt; mutator.load(0, 1, range), Reply::Null, "a new field");
-    assert_eq!(rt; mutator.forge(0, 1, 0x0001_1234), Reply::Ok);
-    assert_eq!(rt; mutator.name(0, 1), Reply::Word(0x0001_1234));
-    assert_eq!(rt; mutator.swap(0, 1, range, 8), Reply::Value(7));
-    assert_eq!(rt; mutator.load(0, 0, range), Reply::Value(8));
+    assert_is(&rt, mutator.forge(0, 1, 0x0001_1234), Reply::Ok);
+    assert_is(&rt, mutator.name(0, 1), Reply::Word(0x0001_1234));
+    assert_is(&rt, mutator.swap(0, 1, range, 8), Reply::Value(7));
+    assert_is(&rt, mutator.load(0, 0, range), Reply::Value(8));
     assert_eq!(rt;
         mutator.forge(0, 1, 0x0004_0000),
         Reply::Ok,
         "past the limit"
     );
-    assert_eq!(rt; mutator.store(0, 1, range, 9), Reply::Fault);
+    assert_is(&rt, mutator.store(0, 1, range, 9), Reply::Fault);
     Ok(())
 }
 
@@ -97,10 +102,10 @@ fn a_forged_field_names_what_its_word_names(rt: HostRuntime) -> Result<(), OutOf
 fn a_variable_that_holds_nothing_makes_a_call_empty(rt: HostRuntime) -> Result<(), OutOfMemory> {
     let mut mutator = with_cell(rt.alloc())?;
     let range = only(0x0f);
-    assert_eq!(rt; mutator.name(1, 0), Reply::Empty);
-    assert_eq!(rt; mutator.load(1, 0, range), Reply::Empty);
-    assert_eq!(rt; mutator.store(1, 0, range, 8), Reply::Empty);
-    assert_eq!(rt; mutator.swap(1, 0, range, 8), Reply::Empty);
-    assert_eq!(rt; mutator.forge(1, 0, 0x0001_0000), Reply::Empty);
+    assert_is(&rt, mutator.name(1, 0), Reply::Empty);
+    assert_is(&rt, mutator.load(1, 0, range), Reply::Empty);
+    assert_is(&rt, mutator.store(1, 0, range, 8), Reply::Empty);
+    assert_is(&rt, mutator.swap(1, 0, range, 8), Reply::Empty);
+    assert_is(&rt, mutator.forge(1, 0, 0x0001_0000), Reply::Empty);
     Ok(())
 }

@@ -3,13 +3,14 @@
 ghost use Rattle.std.specs.Prelude.{◌≡◌, IfOk, slice_index};
 ghost use Rattle.mutator_calls.specs.Calls.{IsReady};
 
-use mutator_calls::{Mutator, Totals};
 use entry_word::{Shape, word_of};
+use mutator_calls::{Mutator, Totals};
 use plain_table::{Compaction, OutOfMemory, Policy, Reply, SweepReport};
 use std::alloc::Global;
 use std::process::Abort;
 use sweeper::late_mark;
 use tag_set::{Range, Tag};
+use worked_asserts::assert_is;
 
 const SHAPE: Shape = Shape {
     seg: 4,
@@ -66,7 +67,11 @@ fn empty_cycle<R: AllocGlobal + Abort>(
 #[test]
 fn an_empty_table_has_no_area_and_keeps_nothing(rt: HostRuntime) -> Result<(), OutOfMemory> {
     for policy in [Policy::Auto, Policy::Always, Policy::Never] {
-        assert_eq!(rt; empty_cycle(&rt, policy)?, (None, NOTHING, totals(0, 0, 0)));
+        assert_is(
+            &rt,
+            empty_cycle(&rt, policy)?,
+            (None, NOTHING, totals(0, 0, 0)),
+        );
     }
     Ok(())
 }
@@ -79,13 +84,14 @@ fn tag() -> Tag {
 #[test]
 fn a_finish_frees_a_cell_that_found_its_field_taken(rt: HostRuntime) -> Result<(), OutOfMemory> {
     let mut mutator = Mutator::fresh(rt.alloc(), SHAPE)?;
-    assert_eq!(rt; mutator.new_object(0), Reply::Obj(0));
-    assert_eq!(rt; mutator.init(0, 0, tag(), 2), Reply::Ok);
-    assert_eq!(rt;
+    assert_is(&rt, mutator.new_object(0), Reply::Obj(0));
+    assert_is(&rt, mutator.init(0, 0, tag(), 2), Reply::Ok);
+    assert_is(
+        &rt,
         mutator.init(0, 0, tag(), (1 << 48) - 1),
-        Reply::Taken(word_of(1))
+        Reply::Taken(word_of(1)),
     );
-    assert_eq!(rt; mutator.totals(), totals(2, 1, 1));
+    assert_is(&rt, mutator.totals(), totals(2, 1, 1));
     let (area, report) = cycle(&rt, &mut mutator, Policy::Never)?;
     let freed = SweepReport {
         kept: 1,
@@ -93,7 +99,7 @@ fn a_finish_frees_a_cell_that_found_its_field_taken(rt: HostRuntime) -> Result<(
         ..NOTHING
     };
     assert_eq!(rt; (area, report), (None, freed));
-    assert_eq!(rt; mutator.totals(), totals(1, 1, 2));
+    assert_is(&rt, mutator.totals(), totals(1, 1, 2));
     Ok(())
 }
 
@@ -114,7 +120,7 @@ fn four_cells(alloc: Global) -> Result<Mutator, OutOfMemory>
 #[test]
 fn the_last_segment_is_compacted_where_there_is_room(rt: HostRuntime) -> Result<(), OutOfMemory> {
     let mut mutator = four_cells(rt.alloc())?;
-    assert_eq!(rt; mutator.totals(), totals(4, 2, 18));
+    assert_is(&rt, mutator.totals(), totals(4, 2, 18));
     let (area, report) = cycle(&rt, &mut mutator, Policy::Never)?;
     let freed = SweepReport {
         kept: 3,
@@ -131,7 +137,7 @@ fn the_last_segment_is_compacted_where_there_is_room(rt: HostRuntime) -> Result<
         ..NOTHING
     };
     assert_eq!(rt; (area, report), (Some(4), moved));
-    assert_eq!(rt; mutator.totals(), totals(3, 2, 14));
+    assert_is(&rt, mutator.totals(), totals(3, 2, 14));
     Ok(())
 }
 
@@ -147,7 +153,7 @@ fn a_compaction_with_no_room_is_aborted(rt: HostRuntime) -> Result<(), OutOfMemo
         ..NOTHING
     };
     assert_eq!(rt; (area, report), (Some(4), aborted));
-    assert_eq!(rt; mutator.totals(), totals(3, 2, 14));
+    assert_is(&rt, mutator.totals(), totals(3, 2, 14));
     Ok(())
 }
 
@@ -228,8 +234,8 @@ fn two_marked_cells<R: AllocGlobal + Abort>(rt: &R) -> Result<Mutator, OutOfMemo
         segs: 2,
         ..swept(2, 5)
     };
-    assert_eq!(rt; cycle(rt, &mut mutator, Policy::Never)?, (None, freed));
-    assert_eq!(rt; start_marked(rt, &mut mutator)?, Some(4));
+    assert_is(rt, cycle(rt, &mut mutator, Policy::Never)?, (None, freed));
+    assert_is(rt, start_marked(rt, &mut mutator)?, Some(4));
     Ok(mutator)
 }
 
@@ -238,18 +244,22 @@ fn a_field_that_is_forged_after_the_marking_is_not_rewritten(
     rt: HostRuntime,
 ) -> Result<(), OutOfMemory> {
     let mut mutator = two_marked_cells(&rt)?;
-    assert_eq!(rt; mutator.forge(0, 1, 0x0007_0000), Reply::Ok);
+    assert_is(&rt, mutator.forge(0, 1, 0x0007_0000), Reply::Ok);
     assert!(rt; mutator.in_cycle());
     let moved = SweepReport {
         moved: 1,
         compaction: Compaction::Done,
         ..swept(2, 0)
     };
-    assert_eq!(rt; mutator.finish(), moved);
-    assert_eq!(rt; mutator.load(3, 0, Range::one(tag())), Reply::Value(0xc7));
-    assert_eq!(rt; mutator.name(3, 0), Reply::Word(0x0002_0000));
-    assert_eq!(rt; mutator.name(0, 1), Reply::Word(0x0007_0000));
-    assert_eq!(rt; mutator.load(0, 1, Range::one(tag())), Reply::Fault);
+    assert_is(&rt, mutator.finish(), moved);
+    assert_is(
+        &rt,
+        mutator.load(3, 0, Range::one(tag())),
+        Reply::Value(0xc7),
+    );
+    assert_is(&rt, mutator.name(3, 0), Reply::Word(0x0002_0000));
+    assert_is(&rt, mutator.name(0, 1), Reply::Word(0x0007_0000));
+    assert_is(&rt, mutator.load(0, 1, Range::one(tag())), Reply::Fault);
     Ok(())
 }
 
@@ -258,16 +268,17 @@ fn a_cell_whose_field_is_forged_away_after_the_marking_is_freed(
     rt: HostRuntime,
 ) -> Result<(), OutOfMemory> {
     let mut mutator = two_marked_cells(&rt)?;
-    assert_eq!(rt; mutator.forge(3, 0, 0), Reply::Ok);
+    assert_is(&rt, mutator.forge(3, 0, 0), Reply::Ok);
     assert!(rt; mutator.in_cycle());
     let freed = SweepReport {
         compaction: Compaction::Done,
         ..swept(1, 1)
     };
-    assert_eq!(rt; mutator.finish(), freed);
-    assert_eq!(rt;
+    assert_is(&rt, mutator.finish(), freed);
+    assert_is(
+        &rt,
         mutator.raw_load(0x0007_0000, Range::one(tag())),
-        Reply::Fault
+        Reply::Fault,
     );
     Ok(())
 }

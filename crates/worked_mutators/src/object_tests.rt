@@ -1,7 +1,8 @@
 // The calls of objects on a small table, and a link in a cycle, which lists its target once.
-use mutator_calls::Mutator;
 use entry_word::Shape;
+use mutator_calls::Mutator;
 use plain_table::{OutOfMemory, Policy, Reply};
+use worked_asserts::assert_is;
 
 const SHAPE: Shape = Shape {
     seg: 4,
@@ -13,22 +14,22 @@ const SHAPE: Shape = Shape {
 #[test]
 fn objects_are_made_linked_fetched_and_let_go(rt: HostRuntime) -> Result<(), OutOfMemory> {
     let mut mutator = Mutator::fresh(rt.alloc(), SHAPE)?;
-    assert_eq!(rt; mutator.new_object(0), Reply::Obj(0));
-    assert_eq!(rt; mutator.new_object(1), Reply::Obj(1));
-    assert_eq!(rt; mutator.new_object(2), Reply::HeapFull);
-    assert_eq!(rt; mutator.link(0, 3, Some(1)), Reply::Ok);
-    assert_eq!(rt; mutator.link_global(15, Some(0)), Reply::Ok);
-    assert_eq!(rt; mutator.drop_var(0), Reply::Ok);
-    assert_eq!(rt; mutator.fetch(5, 0, 3), Reply::Empty);
-    assert_eq!(rt; mutator.link(0, 3, None), Reply::Empty);
-    assert_eq!(rt; mutator.fetch_global(6, 15), Reply::Obj(0));
-    assert_eq!(rt; mutator.fetch(5, 6, 3), Reply::Obj(1));
-    assert_eq!(rt; mutator.link(6, 3, None), Reply::Ok);
-    assert_eq!(rt; mutator.fetch(5, 6, 3), Reply::Nothing);
-    assert_eq!(rt; mutator.link(6, 3, Some(5)), Reply::Empty);
-    assert_eq!(rt; mutator.link_global(15, Some(5)), Reply::Empty);
-    assert_eq!(rt; mutator.link_global(15, None), Reply::Ok);
-    assert_eq!(rt; mutator.fetch_global(6, 15), Reply::Nothing);
+    assert_is(&rt, mutator.new_object(0), Reply::Obj(0));
+    assert_is(&rt, mutator.new_object(1), Reply::Obj(1));
+    assert_is(&rt, mutator.new_object(2), Reply::HeapFull);
+    assert_is(&rt, mutator.link(0, 3, Some(1)), Reply::Ok);
+    assert_is(&rt, mutator.link_global(15, Some(0)), Reply::Ok);
+    assert_is(&rt, mutator.drop_var(0), Reply::Ok);
+    assert_is(&rt, mutator.fetch(5, 0, 3), Reply::Empty);
+    assert_is(&rt, mutator.link(0, 3, None), Reply::Empty);
+    assert_is(&rt, mutator.fetch_global(6, 15), Reply::Obj(0));
+    assert_is(&rt, mutator.fetch(5, 6, 3), Reply::Obj(1));
+    assert_is(&rt, mutator.link(6, 3, None), Reply::Ok);
+    assert_is(&rt, mutator.fetch(5, 6, 3), Reply::Nothing);
+    assert_is(&rt, mutator.link(6, 3, Some(5)), Reply::Empty);
+    assert_is(&rt, mutator.link_global(15, Some(5)), Reply::Empty);
+    assert_is(&rt, mutator.link_global(15, None), Reply::Ok);
+    assert_is(&rt, mutator.fetch_global(6, 15), Reply::Nothing);
     Ok(())
 }
 
@@ -39,16 +40,16 @@ fn a_link_in_a_cycle_lists_its_target_once(rt: HostRuntime) -> Result<(), OutOfM
     mutator.new_object(1);
     mutator.link(0, 0, Some(1));
     mutator.drop_var(1);
-    assert_eq!(rt; mutator.image.words[4], 0);
+    assert_is(&rt, mutator.image.words[4], 0);
     mutator.start(rt.alloc(), Policy::Never)?;
-    assert_eq!(rt; mutator.owed, 1);
-    assert_eq!(rt; mutator.fetch(1, 0, 0), Reply::Obj(1));
-    assert_eq!(rt; mutator.link_global(0, Some(1)), Reply::Ok);
-    assert_eq!(rt; mutator.owed, 1);
-    assert_eq!(rt; mutator.link(0, 1, Some(1)), Reply::Ok);
-    assert_eq!(rt; mutator.owed, 2);
-    assert_eq!(rt; mutator.link(0, 2, Some(1)), Reply::Ok);
-    assert_eq!(rt; mutator.owed, 2);
-    assert_eq!(rt; mutator.list.get(1).copied(), Some(1));
+    assert_is(&rt, mutator.owed, 1);
+    assert_is(&rt, mutator.fetch(1, 0, 0), Reply::Obj(1));
+    assert_is(&rt, mutator.link_global(0, Some(1)), Reply::Ok);
+    assert_is(&rt, mutator.owed, 1);
+    assert_is(&rt, mutator.link(0, 1, Some(1)), Reply::Ok);
+    assert_is(&rt, mutator.owed, 2);
+    assert_is(&rt, mutator.link(0, 2, Some(1)), Reply::Ok);
+    assert_is(&rt, mutator.owed, 2);
+    assert_is(&rt, mutator.list.get(1).copied(), Some(1));
     Ok(())
 }

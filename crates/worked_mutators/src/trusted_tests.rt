@@ -1,10 +1,11 @@
 // Trusted entries on a small table: one that is made, published, shared and looked at, and each answer of these calls.
 ghost use Rattle.std.specs.Prelude.{◌≡◌, slice_index};
 
-use mutator_calls::Mutator;
 use entry_word::{Pending, Shape};
+use mutator_calls::Mutator;
 use plain_table::{OutOfMemory, Policy, Reply};
 use tag_set::{Range, Tag};
+use worked_asserts::assert_is;
 
 const SHAPE: Shape = Shape {
     seg: 4,
@@ -28,25 +29,37 @@ fn a_new_entry_cannot_be_seen_until_it_is_published(rt: HostRuntime) -> Result<(
     let mut mutator = Mutator::fresh(rt.alloc(), SHAPE)?;
     let tag = Tag::of(15).unwrap();
     mutator.new_object(0);
-    assert_eq!(rt; mutator.tload(0, Range::one(tag)), Reply::Null);
-    assert_eq!(rt; mutator.tnew(0, tag, 7), Reply::Ok);
-    assert_eq!(rt; word(&mutator, 39), 0x0001_0000);
-    assert_eq!(rt; word(&mutator, ENTRIES + 1), 0x480f_0000_0000_0007);
+    assert_is(&rt, mutator.tload(0, Range::one(tag)), Reply::Null);
+    assert_is(&rt, mutator.tnew(0, tag, 7), Reply::Ok);
+    assert_is(&rt, word(&mutator, 39), 0x0001_0000);
+    assert_is(&rt, word(&mutator, ENTRIES + 1), 0x480f_0000_0000_0007);
     let pending = Pending {
         index: 1,
         tag: 15,
         value: 7,
     };
-    assert_eq!(rt; mutator.image.pending.first().copied(), Some(Some(pending)));
-    assert_eq!(rt; mutator.tload(0, Range::one(tag)), Reply::Fault);
-    assert_eq!(rt; mutator.traw(0x0001_0000, Range::one(tag)), Reply::Fault);
-    assert_eq!(rt; mutator.tnew(0, tag, 8), Reply::Pending);
-    assert_eq!(rt; mutator.publish(0), Reply::Ok);
-    assert_eq!(rt; word(&mutator, ENTRIES + 1), 0x400f_0000_0000_0007);
-    assert_eq!(rt; mutator.image.pending.first().copied(), Some(None));
-    assert_eq!(rt; mutator.tload(0, Range::one(tag)), Reply::Value(7));
-    assert_eq!(rt; mutator.traw(0x0001_ffff, Range::one(tag)), Reply::Value(7));
-    assert_eq!(rt; mutator.publish(0), Reply::NotYours);
+    assert_is(
+        &rt,
+        mutator.image.pending.first().copied(),
+        Some(Some(pending)),
+    );
+    assert_is(&rt, mutator.tload(0, Range::one(tag)), Reply::Fault);
+    assert_is(
+        &rt,
+        mutator.traw(0x0001_0000, Range::one(tag)),
+        Reply::Fault,
+    );
+    assert_is(&rt, mutator.tnew(0, tag, 8), Reply::Pending);
+    assert_is(&rt, mutator.publish(0), Reply::Ok);
+    assert_is(&rt, word(&mutator, ENTRIES + 1), 0x400f_0000_0000_0007);
+    assert_is(&rt, mutator.image.pending.first().copied(), Some(None));
+    assert_is(&rt, mutator.tload(0, Range::one(tag)), Reply::Value(7));
+    assert_is(
+        &rt,
+        mutator.traw(0x0001_ffff, Range::one(tag)),
+        Reply::Value(7),
+    );
+    assert_is(&rt, mutator.publish(0), Reply::NotYours);
     Ok(())
 }
 
@@ -59,14 +72,14 @@ fn a_field_that_is_taken_leaves_no_entry_to_publish(rt: HostRuntime) -> Result<(
     mutator.new_object(2);
     mutator.tnew(0, tag, 7);
     mutator.publish(0);
-    assert_eq!(rt; mutator.tnew(0, tag, 8), Reply::Taken(0x0001_0000));
-    assert_eq!(rt; word(&mutator, ENTRIES + 2), 0x480f_0000_0000_0008);
-    assert_eq!(rt; mutator.image.pending.first().copied(), Some(None));
-    assert_eq!(rt; mutator.tnew(1, tag, 9), Reply::Ok);
-    assert_eq!(rt; word(&mutator, 47), 0x0003_0000);
-    assert_eq!(rt; mutator.publish(0), Reply::NotYours);
-    assert_eq!(rt; mutator.publish(1), Reply::Ok);
-    assert_eq!(rt; mutator.tnew(2, tag, 10), Reply::Full);
+    assert_is(&rt, mutator.tnew(0, tag, 8), Reply::Taken(0x0001_0000));
+    assert_is(&rt, word(&mutator, ENTRIES + 2), 0x480f_0000_0000_0008);
+    assert_is(&rt, mutator.image.pending.first().copied(), Some(None));
+    assert_is(&rt, mutator.tnew(1, tag, 9), Reply::Ok);
+    assert_is(&rt, word(&mutator, 47), 0x0003_0000);
+    assert_is(&rt, mutator.publish(0), Reply::NotYours);
+    assert_is(&rt, mutator.publish(1), Reply::Ok);
+    assert_is(&rt, mutator.tnew(2, tag, 10), Reply::Full);
     Ok(())
 }
 
@@ -76,17 +89,17 @@ fn a_share_in_a_cycle_marks_the_entry(rt: HostRuntime) -> Result<(), OutOfMemory
     let tag = Tag::of(15).unwrap();
     mutator.new_object(0);
     mutator.new_object(1);
-    assert_eq!(rt; mutator.share(0, 1), Reply::Null);
+    assert_is(&rt, mutator.share(0, 1), Reply::Null);
     mutator.tnew(0, tag, 7);
     mutator.publish(0);
-    assert_eq!(rt; mutator.image.words[4], 0);
+    assert_is(&rt, mutator.image.words[4], 0);
     mutator.start(rt.alloc(), Policy::Never)?;
-    assert_eq!(rt; word(&mutator, ENTRIES + 1), 0x000f_0000_0000_0007);
-    assert_eq!(rt; mutator.share(0, 1), Reply::Ok);
-    assert_eq!(rt; word(&mutator, ENTRIES + 1), 0x400f_0000_0000_0007);
-    assert_eq!(rt; word(&mutator, 47), 0x0001_0000);
-    assert_eq!(rt; mutator.tload(1, Range::one(tag)), Reply::Value(7));
-    assert_eq!(rt; mutator.share(0, 1), Reply::Taken(0x0001_0000));
+    assert_is(&rt, word(&mutator, ENTRIES + 1), 0x000f_0000_0000_0007);
+    assert_is(&rt, mutator.share(0, 1), Reply::Ok);
+    assert_is(&rt, word(&mutator, ENTRIES + 1), 0x400f_0000_0000_0007);
+    assert_is(&rt, word(&mutator, 47), 0x0001_0000);
+    assert_is(&rt, mutator.tload(1, Range::one(tag)), Reply::Value(7));
+    assert_is(&rt, mutator.share(0, 1), Reply::Taken(0x0001_0000));
     Ok(())
 }
 
@@ -95,10 +108,10 @@ fn a_variable_that_holds_nothing_makes_each_call_empty(rt: HostRuntime) -> Resul
     let mut mutator = Mutator::fresh(rt.alloc(), SHAPE)?;
     let tag = Tag::of(15).unwrap();
     mutator.new_object(0);
-    assert_eq!(rt; mutator.tnew(1, tag, 7), Reply::Empty);
-    assert_eq!(rt; mutator.publish(1), Reply::Empty);
-    assert_eq!(rt; mutator.tload(1, Range::one(tag)), Reply::Empty);
-    assert_eq!(rt; mutator.share(1, 0), Reply::Empty);
-    assert_eq!(rt; mutator.share(0, 1), Reply::Empty);
+    assert_is(&rt, mutator.tnew(1, tag, 7), Reply::Empty);
+    assert_is(&rt, mutator.publish(1), Reply::Empty);
+    assert_is(&rt, mutator.tload(1, Range::one(tag)), Reply::Empty);
+    assert_is(&rt, mutator.share(1, 0), Reply::Empty);
+    assert_is(&rt, mutator.share(0, 1), Reply::Empty);
     Ok(())
 }

@@ -1,11 +1,11 @@
 // Each call of the outside fails once, at each position of one script and of its report: a read, a write, a sink's room that is
 // too small, and an input that is cut off.
-use table_run::Status;
 use crate::tests::{Setting, check_bytes, plain};
 use script_reader::ScriptErr;
 use std::process::Abort;
 use std::test::Fail;
 use std::thread::Threads;
+use table_run::Status;
 
 /// A resource under its own tag and under a wrong one.
 const SCRIPT: &[u8; 138] =

@@ -1,9 +1,9 @@
 // Whole runs of one mutator over cycles and trusted entries, from scripts and reports as text.
-use table_run::Status;
 use crate::tests::{check, plain};
 use std::process::Abort;
 use std::test::Fail;
 use std::thread::Threads;
+use table_run::Status;
 
 const ONE_OBJECT: &str = "ept 1 seg=4 ext=1 tru=1 objects=1 mutators=1 markers=0\n";
 

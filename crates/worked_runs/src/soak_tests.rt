@@ -1,9 +1,9 @@
 // The words `soak N`: runs of generated scripts, with eight mutators and four markers on threads.
-use table_run::Status;
 use crate::tests::{check, plain};
 use std::process::Abort;
 use std::test::Fail;
 use std::thread::Threads;
+use table_run::Status;
 
 // Two runs of one script on threads, whose histories may differ.
 fn writes_twice<R: AllocGlobal + Abort + Threads + Sync>(

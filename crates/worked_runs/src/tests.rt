@@ -1,10 +1,10 @@
 // Whole runs over memory: worked scripts and their reports, and each answer of the top call.
-use table_run::{Status, run_main};
 use ept_io::{MemorySink, MemorySource};
 use script_reader::ScriptErr;
 use std::process::Abort;
 use std::test::Fail;
 use std::thread::Threads;
+use table_run::{Status, run_main};
 
 const ONE_OBJECT: &str = "ept 1 seg=4 ext=1 tru=1 objects=1 mutators=1 markers=0\n";
 

@@ -21,6 +21,7 @@ use std::alloc::Global;
 use std::marker::Brand;
 use std::process::Abort;
 use std::sync::ledger::{Blank, Ledger};
+use worked_asserts::assert_is;
 use worked_tables::{SHAPE, close_both, close_whole, open_fresh, take_head, take_two, word_at};
 
 /// Looks at the external cell at index 1 under its tag, which answers its value.
@@ -31,7 +32,7 @@ fn look_under_tag(rt: &impl Abort, shared: &Shared, s: &mut Session)
     ensures answered { Answered (view s.old) (event_of (view s.old) (act.Look External 65536 15 15) (reply.Value 192)) (view s.new) }
 {
     let found = look_step(shared, s, Space::External, 0x1_0000, 0x0f, 0x0f);
-    assert_eq!(rt; found, 0x400f_0000_0000_00c0);
+    assert_is(rt, found, 0x400f_0000_0000_00c0);
 }
 
 /// Looks at it under other tags, which answers a fault.
@@ -42,7 +43,7 @@ fn look_under_others(rt: &impl Abort, shared: &Shared, s: &mut Session)
     ensures answered { Answered (view s.old) (event_of (view s.old) (act.Look External 65536 16 255) reply.Fault) (view s.new) }
 {
     let found = look_step(shared, s, Space::External, 0x1_0000, 0x10, 0xff);
-    assert_eq!(rt; found, 0x400f_0000_0000_00c0);
+    assert_is(rt, found, 0x400f_0000_0000_00c0);
 }
 
 /// Looks at the hidden trusted cell at index 1 under its tag, which answers a fault.
@@ -53,7 +54,7 @@ fn look_at_hidden(rt: &impl Abort, shared: &Shared, s: &mut Session)
     ensures answered { Answered (view s.old) (event_of (view s.old) (act.Look Trusted 65536 15 15) reply.Fault) (view s.new) }
 {
     let found = look_step(shared, s, Space::Trusted, 0x1_0000, 0x0f, 0x0f);
-    assert_eq!(rt; found, 0x480f_0000_0000_00c0);
+    assert_is(rt, found, 0x480f_0000_0000_00c0);
 }
 
 fn put_and_store<L: Ledger>(rt: &impl Abort, alloc: Global, blank: Blank) -> Result<(), OutOfMemory>
@@ -74,7 +75,7 @@ fn put_and_store<L: Ledger>(rt: &impl Abort, alloc: Global, blank: Blank) -> Res
         2,
         &mut steps,
     );
-    assert_eq!(rt; taken, Some(1));
+    assert_is(rt, taken, Some(1));
     put_external(&shared, &mut session, 1, 0x0f, 0xc0);
     look_under_tag(rt, &shared, &mut session);
     look_under_others(rt, &shared, &mut session);
@@ -82,10 +83,10 @@ fn put_and_store<L: Ledger>(rt: &impl Abort, alloc: Global, blank: Blank) -> Res
     let stored = exchange_step(&shared, &mut session, 0x1_0000, 0x0f, 0x0f, 0x0f, 0xe0);
     let exchanged = look_step(&shared, &mut session, Space::External, 0x1_0000, 0x0f, 0x0f);
     let image = close_whole(shared, session);
-    assert_eq!(rt; stored, 0x400f_0000_0000_00d0);
-    assert_eq!(rt; exchanged, 0x400f_0000_0000_00e0);
-    assert_eq!(rt; word_at(&image, 0), Some(0x2_0000_0002));
-    assert_eq!(rt; word_at(&image, 65), Some(0x400f_0000_0000_00e0));
+    assert_is(rt, stored, 0x400f_0000_0000_00d0);
+    assert_is(rt, exchanged, 0x400f_0000_0000_00e0);
+    assert_is(rt, word_at(&image, 0), Some(0x2_0000_0002));
+    assert_is(rt, word_at(&image, 65), Some(0x400f_0000_0000_00e0));
     Ok(())
 }
 
@@ -103,13 +104,13 @@ fn take_with_stale_word<L: Ledger>(
     ensures ticked { steps.new ≡ steps.old + 2 }
 {
     let stale = load_freelist(shared, other, Space::External);
-    assert_eq!(rt; stale, 0x3_0000_0001);
+    assert_is(rt, stale, 0x3_0000_0001);
     let link = load_link(shared, other, Space::External, stale);
-    assert_eq!(rt; link, (1 << 56) + 2);
+    assert_is(rt, link, (1 << 56) + 2);
     let taken = take_head(shared, first, Space::External, 0x3_0000_0001, 2, steps);
-    assert_eq!(rt; taken, Some(1));
+    assert_is(rt, taken, Some(1));
     let missed = take_step(shared, other, Space::External, stale, 2, steps);
-    assert_eq!(rt; missed, Err(0x2_0000_0002));
+    assert_is(rt, missed, Err(0x2_0000_0002));
 }
 
 fn split_and_miss<L: Ledger>(
@@ -126,7 +127,7 @@ fn split_and_miss<L: Ledger>(
     let mut steps = Steps::<L>::start(blank);
     take_with_stale_word(rt, &shared, &mut first, &mut other, &mut steps);
     let image = close_both(shared, first, other);
-    assert_eq!(rt; word_at(&image, 0), Some(0x2_0000_0002));
+    assert_is(rt, word_at(&image, 0), Some(0x2_0000_0002));
     Ok(())
 }
 
@@ -144,7 +145,7 @@ fn put_trusted_and_look<L: Ledger>(
     ensures ticked { steps.new ≡ steps.old + 1 }
 {
     let taken = take_head(shared, s, Space::Trusted, 0x3_0000_0001, 2, steps);
-    assert_eq!(rt; taken, Some(1));
+    assert_is(rt, taken, Some(1));
     put_trusted(shared, s, 1, 0x0f, 0xc0);
     look_at_hidden(rt, shared, s);
 }
@@ -158,12 +159,12 @@ fn fill_trusted<L: Ledger>(rt: &impl Abort, alloc: Global, blank: Blank) -> Resu
     let mut steps = Steps::<L>::start(blank);
     put_trusted_and_look(rt, &shared, &mut session, &mut steps);
     let last = take_two(&shared, &mut session, Space::Trusted, &mut steps);
-    assert_eq!(rt; last, Some(3));
+    assert_is(rt, last, Some(3));
     let spent = load_freelist_for_take(&shared, &mut session, Space::Trusted);
     let image = close_whole(shared, session);
-    assert_eq!(rt; spent, 4);
-    assert_eq!(rt; word_at(&image, 2), Some(4));
-    assert_eq!(rt; word_at(&image, 73), Some(0x480f_0000_0000_00c0));
+    assert_is(rt, spent, 4);
+    assert_is(rt, word_at(&image, 2), Some(4));
+    assert_is(rt, word_at(&image, 73), Some(0x480f_0000_0000_00c0));
     Ok(())
 }
 

@@ -19,6 +19,7 @@ use std::alloc::Global;
 use std::marker::Brand;
 use std::process::Abort;
 use std::sync::ledger::{Blank, Ledger};
+use worked_asserts::assert_is;
 use worked_tables::{SHAPE, change_at, close_both, make_next, open_fresh, put_next};
 
 /// Puts the next external cell, and tries to bind it to external field 0 of object 0, which variable 0 holds. The answer is the word
@@ -43,7 +44,7 @@ fn bind_next<L: Ledger>(
     let Some(index) = put_next(shared, s, word, next, value, steps) else {
         panic!(rt; "the freelist word is not the one that was expected");
     };
-    assert_eq!(rt; s.held(0), Some(0));
+    assert_is(rt, s.held(0), Some(0));
     bind_external(shared, s, 0, 65536 * index)
 }
 
@@ -55,7 +56,7 @@ fn field_word(rt: &impl Abort, shared: &Shared, s: &mut Session, f: u32) -> u64
     ensures caller { IsOf shared.now s.new }
     ensures same { SameCaller (view s.old) (view s.new) }
 {
-    assert_eq!(rt; s.held(0), Some(0));
+    assert_is(rt, s.held(0), Some(0));
     name_external(shared, s, f)
 }
 
@@ -72,10 +73,10 @@ fn bind_both<L: Ledger>(rt: &impl Abort, shared: &Shared, s: &mut Session, steps
     let won = bind_next(rt, shared, s, 0x3_0000_0001, 2, 0xc0, steps);
     let bound = field_word(rt, shared, s, 0);
     let taken = bind_next(rt, shared, s, 0x2_0000_0002, 3, 0xd0, steps);
-    assert_eq!(rt; empty, 0);
-    assert_eq!(rt; won, 0);
-    assert_eq!(rt; bound, 0x1_0000);
-    assert_eq!(rt; taken, 0x1_0000);
+    assert_is(rt, empty, 0);
+    assert_is(rt, won, 0);
+    assert_is(rt, bound, 0x1_0000);
+    assert_is(rt, taken, 0x1_0000);
 }
 
 fn bind_twice<L: Ledger>(rt: &impl Abort, alloc: Global, blank: Blank) -> Result<(), OutOfMemory>
@@ -86,19 +87,21 @@ fn bind_twice<L: Ledger>(rt: &impl Abort, alloc: Global, blank: Blank) -> Result
     let before = Image::fresh(alloc, SHAPE)?;
     let (shared, mut first) = open_fresh(alloc, SHAPE)?;
     let mut one = first.split(&shared, 0, &[]);
-    assert_eq!(rt; one.area(), None);
+    assert_is(rt, one.area(), None);
     let mut steps = Steps::<L>::start(blank);
     assert!(rt; make_next(&shared, &mut one, 0, 0));
     bind_both(rt, &shared, &mut one, &mut steps);
     let after = close_both(shared, first, one);
-    assert_eq!(rt; change_at(&before, &after, 37), Some((0, 0x1_0000)));
-    assert_eq!(rt;
+    assert_is(rt, change_at(&before, &after, 37), Some((0, 0x1_0000)));
+    assert_is(
+        rt,
         change_at(&before, &after, 65),
-        Some(((1 << 56) + 2, 0x400f_0000_0000_00c0))
+        Some(((1 << 56) + 2, 0x400f_0000_0000_00c0)),
     );
-    assert_eq!(rt;
+    assert_is(
+        rt,
         change_at(&before, &after, 66),
-        Some(((1 << 56) + 3, 0x400f_0000_0000_00d0))
+        Some(((1 << 56) + 3, 0x400f_0000_0000_00d0)),
     );
     Ok(())
 }
@@ -116,11 +119,11 @@ fn forge_second(rt: &impl Abort, shared: &Shared, s: &mut Session)
     ensures same { SameCaller (view s.old) (view s.new) }
 {
     let before = field_word(rt, shared, s, 1);
-    assert_eq!(rt; before, 0);
-    assert_eq!(rt; s.held(0), Some(0));
+    assert_is(rt, before, 0);
+    assert_is(rt, s.held(0), Some(0));
     forge_step(shared, s, 1, 0xffff_0007);
     let after = field_word(rt, shared, s, 1);
-    assert_eq!(rt; after, 0xffff_0007);
+    assert_is(rt, after, 0xffff_0007);
 }
 
 #[test]
@@ -131,8 +134,8 @@ fn any_word_is_forged_into_an_external_field(rt: HostRuntime) -> Result<(), OutO
     assert!(rt; make_next(&shared, &mut one, 0, 0));
     forge_second(&rt, &shared, &mut one);
     let after = close_both(shared, first, one);
-    assert_eq!(rt; change_at(&before, &after, 38), Some((0, 0xffff_0007)));
-    assert_eq!(rt; change_at(&before, &after, 37), Some((0, 0)));
+    assert_is(&rt, change_at(&before, &after, 38), Some((0, 0xffff_0007)));
+    assert_is(&rt, change_at(&before, &after, 37), Some((0, 0)));
     Ok(())
 }
 
@@ -155,7 +158,7 @@ fn link_globals(rt: &impl Abort, shared: &Shared, s: &mut Session)
     ensures caller { IsOf shared.now s.new }
     ensures same { SameCaller (view s.old) (view s.new) }
 {
-    assert_eq!(rt; s.held(0), Some(0));
+    assert_is(rt, s.held(0), Some(0));
     link_global(shared, s, 3, Some(0), 1);
     link_global(shared, s, 4, Some(0), 1);
     link_global(shared, s, 4, None, 0);
@@ -169,16 +172,16 @@ fn a_global_that_holds_nothing_is_got_linked_and_emptied(
     let (shared, mut first) = open_fresh(rt.alloc(), SHAPE)?;
     let mut one = first.split(&shared, 0, &[]);
     assert!(rt; make_next(&shared, &mut one, 0, 0));
-    assert_eq!(rt; global_word(&shared, &mut one, 1, 3), 0);
-    assert_eq!(rt; one.held(1), None);
+    assert_is(&rt, global_word(&shared, &mut one, 1, 3), 0);
+    assert_is(&rt, one.held(1), None);
     link_globals(&rt, &shared, &mut one);
-    assert_eq!(rt; global_word(&shared, &mut one, 1, 3), 1);
-    assert_eq!(rt; global_word(&shared, &mut one, 2, 4), 0);
-    assert_eq!(rt; one.held(1), Some(0));
-    assert_eq!(rt; one.held(2), None);
+    assert_is(&rt, global_word(&shared, &mut one, 1, 3), 1);
+    assert_is(&rt, global_word(&shared, &mut one, 2, 4), 0);
+    assert_is(&rt, one.held(1), Some(0));
+    assert_is(&rt, one.held(2), None);
     let after = close_both(shared, first, one);
-    assert_eq!(rt; change_at(&before, &after, 19), Some((0, 1)));
-    assert_eq!(rt; change_at(&before, &after, 20), Some((0, 0)));
+    assert_is(&rt, change_at(&before, &after, 19), Some((0, 1)));
+    assert_is(&rt, change_at(&before, &after, 20), Some((0, 0)));
     Ok(())
 }
 
@@ -190,11 +193,11 @@ fn link_references(rt: &impl Abort, shared: &Shared, s: &mut Session)
     ensures caller { IsOf shared.now s.new }
     ensures same { SameCaller (view s.old) (view s.new) }
 {
-    assert_eq!(rt; s.held(0), Some(0));
+    assert_is(rt, s.held(0), Some(0));
     let empty = get_reference(shared, s, 1, 0, 2);
-    assert_eq!(rt; empty, 0);
-    assert_eq!(rt; s.held(1), None);
-    assert_eq!(rt; s.held(0), Some(0));
+    assert_is(rt, empty, 0);
+    assert_is(rt, s.held(1), None);
+    assert_is(rt, s.held(0), Some(0));
     link_reference(shared, s, 0, 2, Some(0), 1);
     link_reference(shared, s, 0, 3, Some(0), 1);
     link_reference(shared, s, 0, 3, None, 0);
@@ -207,11 +210,11 @@ fn a_reference_that_holds_nothing_is_got_linked_and_emptied(
     let before = Image::fresh(rt.alloc(), SHAPE)?;
     let (shared, mut first) = open_fresh(rt.alloc(), SHAPE)?;
     let mut one = first.split(&shared, 0, &[]);
-    assert_eq!(rt; one.in_cycle(), false);
+    assert_is(&rt, one.in_cycle(), false);
     assert!(rt; make_next(&shared, &mut one, 0, 0));
     link_references(&rt, &shared, &mut one);
     let after = close_both(shared, first, one);
-    assert_eq!(rt; change_at(&before, &after, 35), Some((0, 1)));
-    assert_eq!(rt; change_at(&before, &after, 36), Some((0, 0)));
+    assert_is(&rt, change_at(&before, &after, 35), Some((0, 1)));
+    assert_is(&rt, change_at(&before, &after, 36), Some((0, 0)));
     Ok(())
 }

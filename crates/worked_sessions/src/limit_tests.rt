@@ -22,6 +22,7 @@ use std::alloc::Global;
 use std::marker::Brand;
 use std::process::Abort;
 use std::sync::ledger::{Blank, Ledger};
+use worked_asserts::assert_is;
 use worked_tables::{SHAPE, close_both, close_whole, make_next, open_fresh, take_head, take_two};
 
 /// Looks at the first index past the limit of each space, and at the last word: three faults.
@@ -46,7 +47,7 @@ fn look_at_null(rt: &impl Abort, shared: &Shared, s: &mut Session)
     ensures same { SameCaller (view s.old) (view s.new) }
 {
     let found = look_step(shared, s, Space::External, 0xffff, 1, 255);
-    assert_eq!(rt; found >> 48 & 255, 0);
+    assert_is(rt, found >> 48 & 255, 0);
 }
 
 #[test]
@@ -56,7 +57,7 @@ fn a_look_past_the_limit_faults_and_changes_nothing(rt: HostRuntime) -> Result<(
     look_past(&shared, &mut session);
     look_at_null(&rt, &shared, &mut session);
     let after = close_whole(shared, session);
-    assert_eq!(rt; after.words.as_slice(), before.words.as_slice());
+    assert_is(&rt, after.words.as_slice(), before.words.as_slice());
     Ok(())
 }
 
@@ -69,7 +70,7 @@ fn find_full(rt: &impl Abort, shared: &Shared, s: &mut Session)
     ensures full { Extends (view s.old) (event_of (view s.old) (act.Take Trusted) reply.Full) (view s.new) }
 {
     let spent = load_freelist_for_take(shared, s, Space::Trusted);
-    assert_eq!(rt; spent, 4);
+    assert_is(rt, spent, 4);
 }
 
 fn spend_trusted<L: Ledger>(rt: &impl Abort, alloc: Global, blank: Blank) -> Result<(), OutOfMemory>
@@ -88,15 +89,15 @@ fn spend_trusted<L: Ledger>(rt: &impl Abort, alloc: Global, blank: Blank) -> Res
         2,
         &mut steps,
     );
-    assert_eq!(rt; first, Some(1));
+    assert_is(rt, first, Some(1));
     let last = take_two(&shared, &mut session, Space::Trusted, &mut steps);
-    assert_eq!(rt; last, Some(3));
+    assert_is(rt, last, Some(3));
     find_full(rt, &shared, &mut session);
     let left = load_freelist_for_take(&shared, &mut session, Space::External);
     let after = close_whole(shared, session);
-    assert_eq!(rt; free, 0x3_0000_0001);
-    assert_eq!(rt; left, 0x3_0000_0001);
-    assert_eq!(rt; after.words.as_slice()[2], 4);
+    assert_is(rt, free, 0x3_0000_0001);
+    assert_is(rt, left, 0x3_0000_0001);
+    assert_is(rt, after.words.as_slice()[2], 4);
     Ok(())
 }
 
@@ -123,7 +124,7 @@ fn find_heap_full(rt: &impl Abort, shared: &Shared, s: &mut Session)
     ensures full { Extends (view s.old) (event_of (view s.old) (act.New 1) reply.HeapFull) (view s.new) }
 {
     let count = load_count_for_new(shared, s, 1);
-    assert_eq!(rt; count, 1);
+    assert_is(rt, count, 1);
 }
 
 #[test]
@@ -133,11 +134,11 @@ fn a_second_object_finds_the_heap_full(rt: HostRuntime) -> Result<(), OutOfMemor
     let mut one = first.split(&shared, 0, &[]);
     assert!(rt; make_next(&shared, &mut one, 0, 0));
     find_heap_full(&rt, &shared, &mut one);
-    assert_eq!(rt; one.held(1), None);
+    assert_is(&rt, one.held(1), None);
     let after = close_both(shared, first, one);
-    assert_eq!(rt; before.words.as_slice()[3], 0);
-    assert_eq!(rt; after.words.as_slice()[3], 1);
-    assert_eq!(rt; after.vars.as_slice()[1], 0);
+    assert_is(&rt, before.words.as_slice()[3], 0);
+    assert_is(&rt, after.words.as_slice()[3], 1);
+    assert_is(&rt, after.vars.as_slice()[1], 0);
     Ok(())
 }
 
@@ -150,11 +151,11 @@ fn new_twice(rt: &impl Abort, shared: &Shared, s: &mut Session)
     ensures same { SameCaller (view s.old) (view s.new) }
 {
     let count = load_count_for_new(shared, s, 0);
-    assert_eq!(rt; count, 0);
+    assert_is(rt, count, 0);
     let won = new_step(shared, s, 0, 0);
     let missed = new_step(shared, s, 1, 0);
-    assert_eq!(rt; won, 0);
-    assert_eq!(rt; missed, 1);
+    assert_is(rt, won, 0);
+    assert_is(rt, missed, 1);
 }
 
 #[test]
@@ -162,11 +163,11 @@ fn a_new_object_by_an_old_count_misses(rt: HostRuntime) -> Result<(), OutOfMemor
     let (shared, mut first) = open_fresh(rt.alloc(), SHAPE)?;
     let mut one = first.split(&shared, 0, &[]);
     new_twice(&rt, &shared, &mut one);
-    assert_eq!(rt; one.held(0), Some(0));
-    assert_eq!(rt; one.held(1), None);
+    assert_is(&rt, one.held(0), Some(0));
+    assert_is(&rt, one.held(1), None);
     let after = close_both(shared, first, one);
-    assert_eq!(rt; after.words.as_slice()[3], 1);
-    assert_eq!(rt; after.vars.as_slice()[0], 1);
-    assert_eq!(rt; after.vars.as_slice()[1], 0);
+    assert_is(&rt, after.words.as_slice()[3], 1);
+    assert_is(&rt, after.vars.as_slice()[0], 1);
+    assert_is(&rt, after.vars.as_slice()[1], 0);
     Ok(())
 }

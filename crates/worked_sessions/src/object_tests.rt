@@ -5,6 +5,7 @@ use object_rule::{
     drop_step, get_global, get_reference, link_global, link_reference, load_count_for_new, new_step,
 };
 use plain_table::OutOfMemory;
+use worked_asserts::assert_is;
 use worked_tables::{close_both, close_three, open_fresh};
 
 pub(crate) const SHAPE: Shape = Shape {
@@ -18,17 +19,17 @@ pub(crate) const SHAPE: Shape = Shape {
 fn an_object_is_made_and_got_through_a_global(rt: HostRuntime) -> Result<(), OutOfMemory> {
     let (shared, mut first) = open_fresh(rt.alloc(), SHAPE)?;
     let mut one = first.split(&shared, 0, &[]);
-    assert_eq!(rt; load_count_for_new(&shared, &mut one, 0), 0);
-    assert_eq!(rt; new_step(&shared, &mut one, 0, 0), 0);
-    assert_eq!(rt; one.held(0), Some(0));
+    assert_is(&rt, load_count_for_new(&shared, &mut one, 0), 0);
+    assert_is(&rt, new_step(&shared, &mut one, 0, 0), 0);
+    assert_is(&rt, one.held(0), Some(0));
     link_global(&shared, &mut one, 3, Some(0), 1);
-    assert_eq!(rt; get_global(&shared, &mut one, 1, 3), 1);
-    assert_eq!(rt; one.held(1), Some(0));
+    assert_is(&rt, get_global(&shared, &mut one, 1, 3), 1);
+    assert_is(&rt, one.held(1), Some(0));
     let image = close_both(shared, first, one);
-    assert_eq!(rt; image.words[3], 1);
-    assert_eq!(rt; image.words[19], 1);
-    assert_eq!(rt; image.vars[0], 1);
-    assert_eq!(rt; image.vars[1], 1);
+    assert_is(&rt, image.words[3], 1);
+    assert_is(&rt, image.words[19], 1);
+    assert_is(&rt, image.vars[0], 1);
+    assert_is(&rt, image.vars[1], 1);
     Ok(())
 }
 
@@ -38,19 +39,19 @@ fn a_reference_is_linked_and_got_and_a_variable_dropped(
 ) -> Result<(), OutOfMemory> {
     let (shared, mut first) = open_fresh(rt.alloc(), SHAPE)?;
     let mut one = first.split(&shared, 0, &[]);
-    assert_eq!(rt; one.in_cycle(), false);
-    assert_eq!(rt; load_count_for_new(&shared, &mut one, 0), 0);
-    assert_eq!(rt; new_step(&shared, &mut one, 0, 0), 0);
-    assert_eq!(rt; one.held(0), Some(0));
+    assert_is(&rt, one.in_cycle(), false);
+    assert_is(&rt, load_count_for_new(&shared, &mut one, 0), 0);
+    assert_is(&rt, new_step(&shared, &mut one, 0, 0), 0);
+    assert_is(&rt, one.held(0), Some(0));
     link_reference(&shared, &mut one, 0, 0, Some(0), 1);
-    assert_eq!(rt; get_reference(&shared, &mut one, 1, 0, 0), 1);
+    assert_is(&rt, get_reference(&shared, &mut one, 1, 0, 0), 1);
     drop_step(&shared, &mut one, 0);
-    assert_eq!(rt; one.held(0), None);
-    assert_eq!(rt; one.held(1), Some(0));
+    assert_is(&rt, one.held(0), None);
+    assert_is(&rt, one.held(1), Some(0));
     let image = close_both(shared, first, one);
-    assert_eq!(rt; image.words[33], 1);
-    assert_eq!(rt; image.vars[0], 0);
-    assert_eq!(rt; image.vars[1], 1);
+    assert_is(&rt, image.words[33], 1);
+    assert_is(&rt, image.vars[0], 0);
+    assert_is(&rt, image.vars[1], 1);
     Ok(())
 }
 
@@ -59,18 +60,18 @@ fn of_two_sessions_one_makes_the_object(rt: HostRuntime) -> Result<(), OutOfMemo
     let (shared, mut first) = open_fresh(rt.alloc(), SHAPE)?;
     let mut one = first.split(&shared, 0, &[]);
     let mut two = first.split(&shared, 1, &[]);
-    assert_eq!(rt; load_count_for_new(&shared, &mut one, 0), 0);
-    assert_eq!(rt; load_count_for_new(&shared, &mut two, 5), 0);
-    assert_eq!(rt; new_step(&shared, &mut one, 0, 0), 0);
-    assert_eq!(rt; new_step(&shared, &mut two, 5, 0), 1);
-    assert_eq!(rt; two.held(5), None);
-    assert_eq!(rt; load_count_for_new(&shared, &mut two, 5), 1);
-    assert_eq!(rt; new_step(&shared, &mut two, 5, 1), 1);
-    assert_eq!(rt; two.held(5), Some(1));
-    assert_eq!(rt; load_count_for_new(&shared, &mut one, 0), 2);
+    assert_is(&rt, load_count_for_new(&shared, &mut one, 0), 0);
+    assert_is(&rt, load_count_for_new(&shared, &mut two, 5), 0);
+    assert_is(&rt, new_step(&shared, &mut one, 0, 0), 0);
+    assert_is(&rt, new_step(&shared, &mut two, 5, 0), 1);
+    assert_is(&rt, two.held(5), None);
+    assert_is(&rt, load_count_for_new(&shared, &mut two, 5), 1);
+    assert_is(&rt, new_step(&shared, &mut two, 5, 1), 1);
+    assert_is(&rt, two.held(5), Some(1));
+    assert_is(&rt, load_count_for_new(&shared, &mut one, 0), 2);
     let image = close_three(shared, first, one, two);
-    assert_eq!(rt; image.words[3], 2);
-    assert_eq!(rt; image.vars[0], 1);
-    assert_eq!(rt; image.vars[16 + 5], 2);
+    assert_is(&rt, image.words[3], 2);
+    assert_is(&rt, image.vars[0], 1);
+    assert_is(&rt, image.vars[16 + 5], 2);
     Ok(())
 }

@@ -13,6 +13,7 @@ use std::alloc::Global;
 use std::marker::Brand;
 use std::process::Abort;
 use std::sync::ledger::{Blank, Ledger};
+use worked_asserts::assert_is;
 use worked_tables::{SHAPE, close_both, commit_linked, link_two, open_fresh, take_three, word_at};
 
 /// Both sessions link the segment and commit it. The second one comes first.
@@ -24,17 +25,17 @@ fn commit_twice(rt: &impl Abort, shared: &Shared, first: &mut Session, second: &
     ensures same { SameCaller (view first.old) (view first.new) × SameCaller (view second.old) (view second.new) }
 {
     let empty = load_freelist(shared, first, Space::External);
-    assert_eq!(rt; empty, 4);
+    assert_is(rt, empty, 4);
     let empty = load_freelist(shared, second, Space::External);
-    assert_eq!(rt; empty, 4);
+    assert_is(rt, empty, 4);
     link_two(shared, first, 4);
     link_two(shared, second, 4);
     link_two(shared, second, 6);
     let won = commit_linked(shared, second);
     link_two(shared, first, 6);
     let lost = commit_linked(shared, first);
-    assert_eq!(rt; won, 4);
-    assert_eq!(rt; lost, 0x4_0000_0004);
+    assert_is(rt, won, 4);
+    assert_is(rt, lost, 0x4_0000_0004);
 }
 
 fn link_and_commit<L: Ledger>(
@@ -50,12 +51,12 @@ fn link_and_commit<L: Ledger>(
     let mut second = first.split(&shared, 0, &[]);
     let mut steps = Steps::<L>::start(blank);
     let last = take_three(&shared, &mut first, &mut steps);
-    assert_eq!(rt; last, Some(3));
+    assert_is(rt, last, Some(3));
     commit_twice(rt, &shared, &mut first, &mut second);
     let image = close_both(shared, first, second);
-    assert_eq!(rt; word_at(&image, 0), Some(0x4_0000_0004));
-    assert_eq!(rt; word_at(&image, 69), Some(0x0100_0000_0000_0006));
-    assert_eq!(rt; word_at(&image, 70), Some(0x0100_0000_0000_0007));
+    assert_is(rt, word_at(&image, 0), Some(0x4_0000_0004));
+    assert_is(rt, word_at(&image, 69), Some(0x0100_0000_0000_0006));
+    assert_is(rt, word_at(&image, 70), Some(0x0100_0000_0000_0007));
     Ok(())
 }
 

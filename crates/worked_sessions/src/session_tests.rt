@@ -8,6 +8,7 @@ use object_rule::load_count;
 use plain_table::OutOfMemory;
 use std::alloc::Global;
 use std::thread::{Threads, join};
+use worked_asserts::assert_is;
 use worked_tables::{SHAPE, close_both, close_whole, open_fresh};
 
 #[test]
@@ -15,9 +16,9 @@ fn a_phase_without_a_step_leaves_the_image_as_it_was(rt: HostRuntime) -> Result<
     let before = Image::fresh(rt.alloc(), SHAPE)?;
     let (shared, session) = open_fresh(rt.alloc(), SHAPE)?;
     let after = close_whole(shared, session);
-    assert_eq!(rt; after.words.as_slice(), before.words.as_slice());
-    assert_eq!(rt; after.vars.as_slice(), before.vars.as_slice());
-    assert_eq!(rt; after.pending.as_slice(), before.pending.as_slice());
+    assert_is(&rt, after.words.as_slice(), before.words.as_slice());
+    assert_is(&rt, after.vars.as_slice(), before.vars.as_slice());
+    assert_is(&rt, after.pending.as_slice(), before.pending.as_slice());
     Ok(())
 }
 
@@ -27,15 +28,15 @@ fn a_session_knows_its_number_and_holds_nothing_at_first(
 ) -> Result<(), OutOfMemory> {
     let (shared, mut first) = open_fresh(rt.alloc(), SHAPE)?;
     let other = first.split(&shared, 3, &[]);
-    assert_eq!(rt; first.number(), 12);
-    assert_eq!(rt; other.number(), 3);
-    assert_eq!(rt; other.held(5), None);
-    assert_eq!(rt; other.ticket(), None);
-    assert_eq!(rt; other.in_cycle(), false);
-    assert_eq!(rt; other.area(), None);
+    assert_is(&rt, first.number(), 12);
+    assert_is(&rt, other.number(), 3);
+    assert_is(&rt, other.held(5), None);
+    assert_is(&rt, other.ticket(), None);
+    assert_is(&rt, other.in_cycle(), false);
+    assert_is(&rt, other.area(), None);
     let image = close_both(shared, first, other);
     assert!(rt; image.words.len() > 0);
-    assert_eq!(rt; image.words[0], 0x3_0000_0001);
+    assert_is(&rt, image.words[0], 0x3_0000_0001);
     Ok(())
 }
 
@@ -75,11 +76,11 @@ fn two_sessions_count_the_objects_on_two_threads(rt: HostRuntime) -> Result<(), 
     let (shared, mut first) = open_fresh(rt.alloc(), SHAPE)?;
     let other = first.split(&shared, 3, &[]);
     let ((first, here), (other, there)) = both_count(&rt, &shared, first, other);
-    assert_eq!(rt; here, 0);
-    assert_eq!(rt; there, 0);
-    assert_eq!(rt; first.number(), 12);
+    assert_is(&rt, here, 0);
+    assert_is(&rt, there, 0);
+    assert_is(&rt, first.number(), 12);
     let after = close_both(shared, first, other);
-    assert_eq!(rt; after.words.as_slice(), before.words.as_slice());
-    assert_eq!(rt; after.vars.as_slice(), before.vars.as_slice());
+    assert_is(&rt, after.words.as_slice(), before.words.as_slice());
+    assert_is(&rt, after.vars.as_slice(), before.vars.as_slice());
     Ok(())
 }

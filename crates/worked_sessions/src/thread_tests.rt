@@ -14,6 +14,7 @@ use std::marker::Brand;
 use std::process::Abort;
 use std::sync::ledger::{Blank, Ledger};
 use std::thread::{Threads, join};
+use worked_asserts::assert_is;
 use worked_tables::{
     SHAPE, close_both, close_three, commit_linked, link_two, open_fresh, take_three, try_new,
     word_at,
@@ -41,12 +42,13 @@ fn two_threads_make_one_object_or_two(rt: HostRuntime) -> Result<(), OutOfMemory
     let ((one, here), (two, there)) = both_new(&rt, &shared, one, two);
     let image = close_three(shared, first, one, two);
     assert!(rt; here || there);
-    assert_eq!(rt;
+    assert_is(
+        &rt,
         word_at(&image, 3),
-        Some(u64::from(here) + u64::from(there))
+        Some(u64::from(here) + u64::from(there)),
     );
-    assert_eq!(rt; image.vars.as_slice()[0] != 0, here);
-    assert_eq!(rt; image.vars.as_slice()[16] != 0, there);
+    assert_is(&rt, image.vars.as_slice()[0] != 0, here);
+    assert_is(&rt, image.vars.as_slice()[16] != 0, there);
     Ok(())
 }
 
@@ -111,7 +113,7 @@ fn two_threads_take_one_index_or_two(rt: HostRuntime) -> Result<(), OutOfMemory>
         (Some(1), None) | (None, Some(1)) => 0x2_0000_0002,
         _ => 0,
     };
-    assert_eq!(rt; word_at(&image, 0), Some(word));
+    assert_is(&rt, word_at(&image, 0), Some(word));
     Ok(())
 }
 
@@ -141,9 +143,9 @@ fn both_link<R: Threads + Sync + Abort>(
     ensures same { SameCaller (view one) (view result.0.0) × SameCaller (view two) (view result.1.0) }
 {
     let empty = load_freelist(shared, &mut one, Space::External);
-    assert_eq!(rt; empty, 4);
+    assert_is(rt, empty, 4);
     let empty = load_freelist(shared, &mut two, Space::External);
-    assert_eq!(rt; empty, 4);
+    assert_is(rt, empty, 4);
     join(rt, || link_whole(shared, one), || link_whole(shared, two))
 }
 
@@ -159,14 +161,14 @@ fn link_at_once<R: Threads + Sync + Abort, L: Ledger>(
     let (shared, mut first) = open_fresh(alloc, SHAPE)?;
     let mut steps = Steps::<L>::start(blank);
     let last = take_three(&shared, &mut first, &mut steps);
-    assert_eq!(rt; last, Some(3));
+    assert_is(rt, last, Some(3));
     let other = first.split(&shared, 0, &[]);
     let ((first, here), (other, there)) = both_link(rt, &shared, first, other);
     let image = close_both(shared, first, other);
     assert!(rt; here == 4 && there == 0x4_0000_0004 || here == 0x4_0000_0004 && there == 4);
-    assert_eq!(rt; word_at(&image, 0), Some(0x4_0000_0004));
-    assert_eq!(rt; word_at(&image, 68), Some((1 << 56) + 5));
-    assert_eq!(rt; word_at(&image, 71), Some((1 << 56) + 8));
+    assert_is(rt, word_at(&image, 0), Some(0x4_0000_0004));
+    assert_is(rt, word_at(&image, 68), Some((1 << 56) + 5));
+    assert_is(rt, word_at(&image, 71), Some((1 << 56) + 8));
     Ok(())
 }
 

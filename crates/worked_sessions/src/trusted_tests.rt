@@ -17,6 +17,7 @@ use std::alloc::Global;
 use std::marker::Brand;
 use std::process::Abort;
 use std::sync::ledger::{Blank, Ledger};
+use worked_asserts::assert_is;
 use worked_tables::{SHAPE, change_at, close_both, make_next, open_fresh, put_hidden};
 
 /// Puts the next trusted cell, and tries to bind it to the trusted field of object 0, which variable 0 holds. The answer is the word
@@ -40,7 +41,7 @@ fn bind_hidden<L: Ledger>(
     let Some(index) = put_hidden(shared, s, word, next, value, steps) else {
         panic!(rt; "the freelist word is not the one that was expected");
     };
-    assert_eq!(rt; s.held(0), Some(0));
+    assert_is(rt, s.held(0), Some(0));
     bind_trusted(shared, s, 0, 65536 * index, 0x0f, value)
 }
 
@@ -52,7 +53,7 @@ fn trusted_word(rt: &impl Abort, shared: &Shared, s: &mut Session, var: u32) -> 
     ensures caller { IsOf shared.now s.new }
     ensures same { SameCaller (view s.old) (view s.new) }
 {
-    assert_eq!(rt; s.held(var), Some(var));
+    assert_is(rt, s.held(var), Some(var));
     name_trusted(shared, s, var)
 }
 
@@ -74,9 +75,9 @@ fn publish_first(rt: &impl Abort, shared: &Shared, s: &mut Session)
     ensures caller { IsOf shared.now s.new }
     ensures same { SameCaller (view s.old) (view s.new) }
 {
-    assert_eq!(rt; s.pending(), Some(FIRST));
+    assert_is(rt, s.pending(), Some(FIRST));
     publish_step(shared, s, 1, 0x0f, 0xc0);
-    assert_eq!(rt; s.ticket(), None);
+    assert_is(rt, s.ticket(), None);
 }
 
 /// The first trusted cell, as it waits to be published.
@@ -102,16 +103,17 @@ fn give_ticket<L: Ledger>(rt: &impl Abort, alloc: Global, blank: Blank) -> Resul
     let given = one.ticket();
     let hidden = look_at_first(&shared, &mut one);
     let after = close_both(shared, first, one);
-    assert_eq!(rt; none, None);
-    assert_eq!(rt; empty, 0);
-    assert_eq!(rt; won, 0);
-    assert_eq!(rt; given, Some(1));
-    assert_eq!(rt; hidden, 0x480f_0000_0000_00c0);
-    assert_eq!(rt; after.pending.as_slice()[0], Some(FIRST));
-    assert_eq!(rt; change_at(&before, &after, 39), Some((0, 0x1_0000)));
-    assert_eq!(rt;
+    assert_is(rt, none, None);
+    assert_is(rt, empty, 0);
+    assert_is(rt, won, 0);
+    assert_is(rt, given, Some(1));
+    assert_is(rt, hidden, 0x480f_0000_0000_00c0);
+    assert_is(rt, after.pending.as_slice()[0], Some(FIRST));
+    assert_is(rt, change_at(&before, &after, 39), Some((0, 0x1_0000)));
+    assert_is(
+        rt,
         change_at(&before, &after, 73),
-        Some(((1 << 56) + 2, 0x480f_0000_0000_00c0))
+        Some(((1 << 56) + 2, 0x480f_0000_0000_00c0)),
     );
     Ok(())
 }
@@ -137,18 +139,20 @@ fn publish_and_miss<L: Ledger>(
     let none = one.ticket();
     let bound = trusted_word(rt, &shared, &mut one, 0);
     let after = close_both(shared, first, one);
-    assert_eq!(rt; won, 0);
-    assert_eq!(rt; shown, 0x400f_0000_0000_00c0);
-    assert_eq!(rt; taken, 0x1_0000);
-    assert_eq!(rt; none, None);
-    assert_eq!(rt; bound, 0x1_0000);
-    assert_eq!(rt;
+    assert_is(rt, won, 0);
+    assert_is(rt, shown, 0x400f_0000_0000_00c0);
+    assert_is(rt, taken, 0x1_0000);
+    assert_is(rt, none, None);
+    assert_is(rt, bound, 0x1_0000);
+    assert_is(
+        rt,
         change_at(&before, &after, 73),
-        Some(((1 << 56) + 2, 0x400f_0000_0000_00c0))
+        Some(((1 << 56) + 2, 0x400f_0000_0000_00c0)),
     );
-    assert_eq!(rt;
+    assert_is(
+        rt,
         change_at(&before, &after, 74),
-        Some(((1 << 56) + 3, 0x480f_0000_0000_00d0))
+        Some(((1 << 56) + 3, 0x480f_0000_0000_00d0)),
     );
     Ok(())
 }
@@ -162,10 +166,10 @@ fn share_first(rt: &impl Abort, shared: &Shared, s: &mut Session) -> u64
     ensures caller { IsOf shared.now s.new }
     ensures same { SameCaller (view s.old) (view s.new) }
 {
-    assert_eq!(rt; s.held(0), Some(0));
-    assert_eq!(rt; s.held(1), Some(1));
+    assert_is(rt, s.held(0), Some(0));
+    assert_is(rt, s.held(1), Some(1));
     let word = name_trusted(shared, s, 0);
-    assert_eq!(rt; word, 0x1_0000);
+    assert_is(rt, word, 0x1_0000);
     bind_shared(shared, s, 1, 0x1_0000)
 }
 
@@ -177,7 +181,7 @@ fn share_twice<L: Ledger>(rt: &impl Abort, alloc: Global, blank: Blank) -> Resul
     let before = Image::fresh(alloc, SHAPE)?;
     let (shared, mut first) = open_fresh(alloc, SHAPE)?;
     let mut one = first.split(&shared, 0, &[]);
-    assert_eq!(rt; one.in_cycle(), false);
+    assert_is(rt, one.in_cycle(), false);
     let mut steps = Steps::<L>::start(blank);
     assert!(rt; make_next(&shared, &mut one, 0, 0));
     assert!(rt; make_next(&shared, &mut one, 1, 1));
@@ -187,13 +191,13 @@ fn share_twice<L: Ledger>(rt: &impl Abort, alloc: Global, blank: Blank) -> Resul
     let bound = trusted_word(rt, &shared, &mut one, 1);
     let taken = share_first(rt, &shared, &mut one);
     let after = close_both(shared, first, one);
-    assert_eq!(rt; won, 0);
-    assert_eq!(rt; empty, 0);
-    assert_eq!(rt; shared_now, 0);
-    assert_eq!(rt; bound, 0x1_0000);
-    assert_eq!(rt; taken, 0x1_0000);
-    assert_eq!(rt; change_at(&before, &after, 39), Some((0, 0x1_0000)));
-    assert_eq!(rt; change_at(&before, &after, 47), Some((0, 0x1_0000)));
+    assert_is(rt, won, 0);
+    assert_is(rt, empty, 0);
+    assert_is(rt, shared_now, 0);
+    assert_is(rt, bound, 0x1_0000);
+    assert_is(rt, taken, 0x1_0000);
+    assert_is(rt, change_at(&before, &after, 39), Some((0, 0x1_0000)));
+    assert_is(rt, change_at(&before, &after, 47), Some((0, 0x1_0000)));
     Ok(())
 }
 

@@ -1,6 +1,6 @@
 // The generated script as text, single lines of it, and the words of seeds.
-use script_generator::{generate, seed_of};
 use plain_table::Op;
+use script_generator::{generate, seed_of};
 use script_reader::{parse, print};
 use std::test::Fail;
 

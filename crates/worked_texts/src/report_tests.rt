@@ -1,5 +1,5 @@
-use report_text::{fault_text, soak_text, text};
 use plain_table::{Compaction, MeetReport, Outcome, PhaseReport, Reply, SweepReport};
+use report_text::{fault_text, soak_text, text};
 use script_reader::{OutOfMemory, ScriptErr};
 use sqlite_items::Items;
 use std::alloc::{AllocError, Global};

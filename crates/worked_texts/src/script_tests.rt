@@ -1,5 +1,7 @@
 // Texts, what the grammar makes of them, and their canonical texts.
-use script_reader::{ScriptErr, parse, print, printed_is_read_back, push_hex, upgrade, upgraded_is_valid};
+use script_reader::{
+    ScriptErr, parse, print, printed_is_read_back, push_hex, upgrade, upgraded_is_valid,
+};
 use std::alloc::{AllocError, Global};
 use std::test::Fail;
 
