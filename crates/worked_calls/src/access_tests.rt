@@ -3,12 +3,12 @@ ghost use Rattle.entry_base.specs.Callers.{SameCaller};
 ghost use Rattle.entry_base.specs.Sessions.{view, IsOf};
 
 use crate::asked::{ONE, only, tag, word_at};
+use crate::asserts::assert_is;
 use crate::entries::{bind, make};
 use access_steps::{forge, init, load, name, raw_load, raw_store, store, swap};
 use entry_base::{Session, Shared};
 use plain_table::{OutOfMemory, Reply};
 use std::process::Abort;
-use worked_asserts::assert_is;
 use worked_tables::{close_both, open_fresh};
 
 /// Calls by a field that is not bound, and by a word of index 0, which answer null.

@@ -17,6 +17,7 @@ ghost use Rattle.entry_base.specs.Callers.{SameCaller};
 ghost use Rattle.entry_base.specs.Sessions.{view, IsOf};
 
 use crate::asked::{tag, word_at};
+use crate::asserts::assert_is;
 use crate::cycles::begin_on;
 use crate::entries::{bind, make, put_new};
 use access_steps::init;
@@ -28,7 +29,6 @@ use std::alloc::Global;
 use std::process::Abort;
 use std::thread::{Threads, join};
 use trusted_steps::{publish, share, tnew};
-use worked_asserts::assert_is;
 use worked_tables::{close_five, close_three, open, open_fresh};
 
 /// Four external segments of four entries, and eight objects: the external entries stand from word 96 on.

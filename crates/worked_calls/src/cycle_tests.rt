@@ -4,6 +4,7 @@ ghost use Rattle.entry_base.specs.Callers.{SameCaller};
 ghost use Rattle.entry_base.specs.Sessions.{view, IsOf};
 
 use crate::asked::{TWO, only, tag, word_at};
+use crate::asserts::assert_is;
 use crate::cycles::{begin_on, cycle_over, finish_with_one};
 use crate::entries::make;
 use entry_base::{Session, Shared};
@@ -11,7 +12,6 @@ use graph_steps::drop_var;
 use plain_table::{OutOfMemory, Policy, Reply};
 use std::process::Abort;
 use trusted_steps::{publish, tload, tnew, traw};
-use worked_asserts::assert_is;
 use worked_tables::{close_both, open, open_fresh};
 
 /// Makes an object in a variable and a trusted cell that its field names, which is not published.

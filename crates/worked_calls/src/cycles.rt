@@ -6,12 +6,12 @@ ghost use Rattle.sweeper.specs.Begin.{HasRoom};
 ghost use Rattle.sweeper.specs.Late.{AreOwed};
 
 use crate::asked::word_at;
+use crate::asserts::assert_is;
 use entry_word::{Image, Shape};
 use plain_table::{OutOfMemory, Policy, SweepReport};
 use std::alloc::Global;
 use std::process::Abort;
 use sweeper::{Area, begin, late_mark, sweep};
-use worked_asserts::assert_is;
 
 /// Begins a cycle on an image of known sizes outside a cycle.
 pub(crate) fn begin_on(

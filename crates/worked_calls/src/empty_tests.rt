@@ -3,6 +3,7 @@ ghost use Rattle.entry_base.specs.Callers.{SameCaller};
 ghost use Rattle.entry_base.specs.Sessions.{view, IsOf};
 
 use crate::asked::{only, tag};
+use crate::asserts::assert_is;
 use crate::thread_tests::image_with_a_common_object;
 use access_steps::{forge, init, load, name, store, swap};
 use entry_base::{Session, Shared};
@@ -10,7 +11,6 @@ use graph_steps::{fetch, link, link_global};
 use plain_table::{OutOfMemory, Reply};
 use std::process::Abort;
 use trusted_steps::{publish, share, tload, tnew};
-use worked_asserts::assert_is;
 use worked_tables::{close_both, open};
 
 /// Calls by external fields of what variable 1 holds, which is nothing.

@@ -4,6 +4,7 @@ ghost use Rattle.entry_base.specs.Callers.{SameCaller};
 ghost use Rattle.entry_base.specs.Sessions.{view, IsOf};
 
 use crate::asked::tag;
+use crate::asserts::assert_is;
 use access_steps::{init, put};
 use entry_base::{Session, Shared};
 use freelist_rule::Steps;
@@ -13,7 +14,6 @@ use space_steps::{Taken, take};
 use std::marker::Brand;
 use std::process::Abort;
 use std::sync::ledger::{Blank, Ledger};
-use worked_asserts::assert_is;
 
 /// Makes object `count` in a variable.
 pub(crate) fn make(rt: &impl Abort, shared: &Shared, s: &mut Session, var: u32, count: u32)

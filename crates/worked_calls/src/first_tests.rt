@@ -4,13 +4,13 @@ ghost use Rattle.entry_base.specs.Callers.{SameCaller};
 ghost use Rattle.entry_base.specs.Sessions.{view, IsOf};
 
 use crate::asked::{ONE, TWO, only, tag, word_at};
+use crate::asserts::assert_is;
 use crate::entries::{bind, make};
 use access_steps::{init, load, name};
 use entry_base::{Session, Shared};
 use graph_steps::new_object;
 use plain_table::{OutOfMemory, Reply};
 use std::process::Abort;
-use worked_asserts::assert_is;
 use worked_tables::{close_both, close_whole, open, open_fresh};
 
 /// Makes an object and a cell that its field 0 names, loads the cell under its tag and under another one, and names it.

@@ -5,13 +5,13 @@ ghost use Rattle.entry_base.specs.Openings.{phase_of};
 ghost use Rattle.entry_base.specs.Sessions.{view, IsOf};
 
 use crate::asked::{TWO, word_at};
+use crate::asserts::assert_is;
 use crate::cycles::begin_on;
 use crate::entries::make;
 use entry_base::{Session, Shared};
 use graph_steps::{drop_var, fetch, fetch_global, link, link_global, shade};
 use plain_table::{OutOfMemory, Policy, Reply};
 use std::process::Abort;
-use worked_asserts::assert_is;
 use worked_tables::{close_both, open, open_fresh};
 
 /// Links reference 3 of object 0 to object 1 and back to nothing, and fetches both. No link shades anything outside a cycle.

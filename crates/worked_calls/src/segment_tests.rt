@@ -7,6 +7,7 @@ ghost use Rattle.entry_base.specs.Callers.{SameCaller};
 ghost use Rattle.entry_base.specs.Sessions.{view, IsOf};
 
 use crate::asked::{FOUR, tag, word_at};
+use crate::asserts::assert_is;
 use crate::entries::{bind, make};
 use access_steps::init;
 use entry_base::{Session, Shared};
@@ -15,7 +16,6 @@ use plain_table::{OutOfMemory, Reply};
 use std::alloc::Global;
 use std::process::Abort;
 use std::thread::{Threads, join};
-use worked_asserts::assert_is;
 use worked_tables::{close_both, close_three, open, open_fresh};
 
 /// Makes objects 0 and 1 and three cells, which take the first segment.

@@ -8,6 +8,7 @@ ghost use Rattle.entry_base.specs.Openings.{start_of};
 ghost use Rattle.entry_base.specs.Sessions.{view, IsOf};
 
 use crate::asked::{FOUR, tag, word_at};
+use crate::asserts::assert_is;
 use crate::cycles::{begin_on, cycle_over};
 use crate::entries::{bind, make, put_new};
 use access_steps::{init, put};
@@ -20,7 +21,6 @@ use std::alloc::Global;
 use std::marker::Brand;
 use std::process::Abort;
 use std::sync::ledger::{Blank, Ledger};
-use worked_asserts::assert_is;
 use worked_tables::{close_both, close_whole, open, open_fresh};
 
 /// Takes the trusted index that is expected. The ticket is dropped, and the index stays taken.

@@ -9,6 +9,7 @@ ghost use Rattle.entry_base.specs.Sessions.{view, IsOf};
 ghost use Rattle.entry_base.specs.Views.{numbers_below};
 
 use crate::asked::{ONE, only, tag, word_at};
+use crate::asserts::assert_is;
 use crate::entries::{make, put_new};
 use access_steps::{init, load, raw_load};
 use entry_base::{Session, Shared};
@@ -18,7 +19,6 @@ use plain_table::{OutOfMemory, Reply};
 use std::alloc::Global;
 use std::process::Abort;
 use std::thread::{Threads, join};
-use worked_asserts::assert_is;
 use worked_tables::{close_both, close_three, open, open_fresh};
 
 /// Takes an external index and fills it. The answer is its word.

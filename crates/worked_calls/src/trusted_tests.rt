@@ -4,13 +4,13 @@ ghost use Rattle.entry_base.specs.Callers.{SameCaller};
 ghost use Rattle.entry_base.specs.Sessions.{view, IsOf};
 
 use crate::asked::{FOUR, TWO, only, tag, word_at};
+use crate::asserts::assert_is;
 use crate::cycles::begin_on;
 use crate::entries::make;
 use entry_base::{Session, Shared};
 use plain_table::{OutOfMemory, Policy, Reply};
 use std::process::Abort;
 use trusted_steps::{publish, share, tload, tnew, traw};
-use worked_asserts::assert_is;
 use worked_tables::{close_both, open, open_fresh};
 
 /// Calls by the trusted field of object 0, which is not bound.

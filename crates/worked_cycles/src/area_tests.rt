@@ -15,6 +15,7 @@ ghost use Rattle.entry_base.specs.Passed.{PassedField};
 ghost use Rattle.entry_base.specs.Sessions.{view, IsOf};
 ghost use Rattle.mark_rule.specs.Marking.{InHands};
 
+use crate::asserts::assert_is;
 use crate::cycles::{image_to_move, open_with_roots};
 use crate::scan_tests::{pass_field, pass_reference, pass_three};
 use entry_base::{Session, Shared};
@@ -26,7 +27,6 @@ use std::alloc::Global;
 use std::marker::Brand;
 use std::process::Abort;
 use std::sync::ledger::{Blank, Ledger};
-use worked_asserts::assert_is;
 use worked_tables::{SHAPE, close_both, close_whole, open, take_head, word_at};
 
 /// The word of the cell at index 4, unmarked.

@@ -11,6 +11,7 @@ ghost use Rattle.entry_base.specs.Openings.{phase_of};
 ghost use Rattle.entry_base.specs.Sessions.{view, IsOf};
 ghost use Rattle.mark_rule.specs.Marking.{InHands};
 
+use crate::asserts::assert_is;
 use crate::cycles::{image_to_mark, open_with_roots};
 use entry_base::{Session, Shared};
 use mark_rule::{load_mark, load_word, mark_step};
@@ -20,7 +21,6 @@ use std::alloc::Global;
 use std::marker::Brand;
 use std::process::Abort;
 use std::sync::ledger::{Blank, Ledger};
-use worked_asserts::assert_is;
 use worked_tables::{SHAPE, close_three, word_at};
 
 /// The word of the trusted cell at index 1, unmarked.

@@ -9,6 +9,7 @@ ghost use Rattle.entry_base.specs.Openings.{opening_of, start_of};
 ghost use Rattle.entry_base.specs.Sessions.{view, IsOf};
 ghost use Rattle.entry_base.specs.Views.{numbers_below};
 
+use crate::asserts::assert_is;
 use entry_base::{Session, Shared, area_start, owed_objects};
 use entry_rule::publish_step;
 use entry_word::Image;
@@ -19,7 +20,6 @@ use std::alloc::Global;
 use std::process::Abort;
 use std::sync::ledger::{Blank, Ledger};
 use sweeper::{begin, late_mark, sweep};
-use worked_asserts::assert_is;
 use worked_tables::{
     SHAPE, close_both, commit_linked, link_two, make_next, open_fresh, put_hidden, put_next,
     take_three,

@@ -4,6 +4,7 @@ ghost use Rattle.entry_base.specs.Callers.{SameCaller};
 ghost use Rattle.entry_base.specs.Openings.{phase_of};
 ghost use Rattle.entry_base.specs.Sessions.{view, IsOf};
 
+use crate::asserts::assert_is;
 use crate::cycles::{image_to_mark, open_with_roots};
 use entry_base::{Session, Shared};
 use mark_rule::shade_seen;
@@ -13,7 +14,6 @@ use std::alloc::Global;
 use std::marker::Brand;
 use std::process::Abort;
 use std::sync::ledger::{Blank, Ledger};
-use worked_asserts::assert_is;
 use worked_tables::{close_both, word_at};
 
 /// Gets object 1 from reference 0 of object 0, which variable 0 holds, shades it, and links reference 1 of object 0 to it.

@@ -10,12 +10,12 @@ ghost use Rattle.entry_base.specs.Sessions.{view, IsOf};
 ghost use Rattle.entry_base.specs.Views.{numbers_below};
 ghost use Rattle.mark_rule.specs.Marking.{InHands};
 
+use crate::asserts::assert_is;
 use crate::cycles::{image_in_a_cycle, open_with_roots};
 use entry_base::{Session, Shared, owed_objects};
 use mark_rule::{load_reference, load_word};
 use plain_table::OutOfMemory;
 use std::process::Abort;
-use worked_asserts::assert_is;
 use worked_tables::{close_both, close_whole, open, word_at};
 
 #[test]

@@ -8,6 +8,7 @@ ghost use Rattle.entry_base.specs.Passed.{field_of, IsPassed, PassedField, Passe
 ghost use Rattle.entry_base.specs.Sessions.{view, IsOf};
 ghost use Rattle.mark_rule.specs.Marking.{InHands};
 
+use crate::asserts::assert_is;
 use crate::cycles::{image_in_a_cycle, image_to_mark, open_with_roots};
 use entry_base::{Session, Shared};
 use entry_word::Image;
@@ -18,7 +19,6 @@ use std::alloc::Global;
 use std::marker::Brand;
 use std::process::Abort;
 use std::sync::ledger::{Blank, Ledger};
-use worked_asserts::assert_is;
 use worked_tables::{SHAPE, close_both, close_three, word_at};
 
 /// The words of the cells at index 1 of both spaces, unmarked.

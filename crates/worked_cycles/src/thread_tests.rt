@@ -7,6 +7,7 @@ ghost use Rattle.entry_base.specs.Callers.{SameCaller};
 ghost use Rattle.entry_base.specs.Lists.{Has};
 ghost use Rattle.entry_base.specs.Sessions.{view, hands_of, IsOf, IsChunkOf};
 
+use crate::asserts::assert_is;
 use crate::cell_mark_tests::{MARKED, UNMARKED, find_held, find_in_hands, mark_found};
 use crate::cycles::{image_in_a_cycle, image_to_mark, open_with_roots};
 use crate::scan_tests::{pass_field, pass_reference, pass_three};
@@ -18,7 +19,6 @@ use std::marker::Brand;
 use std::process::Abort;
 use std::sync::ledger::{Blank, Ledger};
 use std::thread::{Threads, join};
-use worked_asserts::assert_is;
 use worked_tables::{SHAPE, close_three, try_new, word_at};
 
 /// Marks the cell that was found. The answer is the word that the exchange finds.

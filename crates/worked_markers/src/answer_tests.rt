@@ -8,6 +8,7 @@ ghost use Rattle.entry_base.specs.Sessions.{view, IsOf};
 ghost use Rattle.mark_rule.specs.Marking.{InHands};
 
 use crate::asked::{FOUR, headers, word_at};
+use crate::asserts::assert_is;
 use crate::cycles::{begin_on, open_with_roots};
 use crate::entries::{bind, bind_published, forge_word, forget, link_to, make};
 use crate::scans::{evacuate_by, mark_by};
@@ -18,7 +19,6 @@ use object_rule::name_trusted;
 use plain_table::{OutOfMemory, Policy};
 use std::alloc::Global;
 use std::process::Abort;
-use worked_asserts::assert_is;
 use worked_tables::{close_both, close_three, open_fresh};
 
 /// An image in a cycle with no area. Object 0, the root, refers to object 1 by its reference 3. Its external field 0 and its

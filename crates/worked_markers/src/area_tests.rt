@@ -7,6 +7,7 @@ ghost use Rattle.entry_base.specs.Callers.{SameCaller};
 ghost use Rattle.entry_base.specs.Sessions.{view, IsOf};
 
 use crate::asked::{TWO, word_at};
+use crate::asserts::assert_is;
 use crate::cycles::{begin_on, open_with_roots};
 use crate::entries::{bind, forge_word, make};
 use crate::scans::{evacuate_by, mark_by};
@@ -17,7 +18,6 @@ use plain_table::{OutOfMemory, Policy};
 use std::alloc::Global;
 use std::process::Abort;
 use sweeper::Area;
-use worked_asserts::assert_is;
 use worked_tables::{close_both, close_three, open_fresh};
 
 /// An image in a cycle whose area begins at 4, with objects 0 and 1, whose four external fields name the cells at 1 to 4: no index

@@ -12,13 +12,13 @@ ghost use Rattle.entry_base.specs.Views.{numbers_below};
 ghost use Rattle.worked_markers.specs.Left.{IsLeft};
 
 use crate::asked::word_at;
+use crate::asserts::assert_is;
 use entry_base::{Session, Shared, area_start, owed_objects};
 use entry_word::{Image, Shape};
 use plain_table::{OutOfMemory, Policy, SweepReport};
 use std::alloc::Global;
 use std::process::Abort;
 use sweeper::{Area, begin, late_mark, sweep};
-use worked_asserts::assert_is;
 
 /// Begins a cycle on an image of known sizes outside a cycle.
 pub(crate) fn begin_on(

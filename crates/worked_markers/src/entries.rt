@@ -4,13 +4,13 @@ ghost use Rattle.entry_base.specs.Callers.{SameCaller};
 ghost use Rattle.entry_base.specs.Sessions.{view, IsOf};
 
 use crate::asked::tag;
+use crate::asserts::assert_is;
 use access_steps::{forge, init};
 use entry_base::{Session, Shared};
 use graph_steps::{drop_var, link, new_object};
 use plain_table::Reply;
 use std::process::Abort;
 use trusted_steps::{publish, tnew};
-use worked_asserts::assert_is;
 
 /// Makes object `count` in a variable.
 pub(crate) fn make(rt: &impl Abort, shared: &Shared, s: &mut Session, var: u32, count: u32)

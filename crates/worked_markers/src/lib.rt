@@ -2,7 +2,7 @@
 //! answers and swept images are compared with those that were expected.
 //!
 //! This crate has no code but its tests. `asked.rt` has the shapes, tags and words that they ask, `entries.rt` makes objects and
-//! cells, `many.rt` many of them, `cycles.rt` begins and finishes cycles, and `scans.rt` scans an object call by call. Evacuations
+//! cells, `many.rt` many of them, `cycles.rt` begins and finishes cycles, `scans.rt` scans an object call by call, and `asserts.rt` compares what was answered. Evacuations
 //! stand in `area_tests.rt` and `moved_tests.rt`, each answer of each call in `answer_tests.rt`, runs of a marker in
 //! `marker_tests.rt`, `split_tests.rt` and `thread_tests.rt`, and those by a pool of chunks in `steal_tests.rt`.
 #![tactic(auto)]
@@ -13,6 +13,8 @@ mod answer_tests;
 mod area_tests;
 #[cfg(test)]
 mod asked;
+#[cfg(test)]
+mod asserts;
 #[cfg(test)]
 mod cycles;
 #[cfg(test)]

@@ -6,6 +6,7 @@ ghost use Rattle.entry_base.specs.Callers.{SameCaller};
 ghost use Rattle.entry_base.specs.Openings.{phase_of};
 ghost use Rattle.entry_base.specs.Sessions.{view, IsChunkOf, IsOf};
 
+use crate::asserts::assert_is;
 use crate::cycles::begin_on;
 use crate::entries::{forget, link_to, make};
 use entry_base::{Chunk, Session, Shared};
@@ -14,7 +15,6 @@ use graph_steps::{fetch, fetch_global, link_global, shade};
 use plain_table::{OutOfMemory, Policy, Reply};
 use std::alloc::Global;
 use std::process::Abort;
-use worked_asserts::assert_is;
 use worked_tables::{close_both, open_fresh};
 
 /// An external segment of four entries and a trusted one, and 501 objects: 251 holders, and an own object of each but the last.

@@ -7,6 +7,7 @@ ghost use Rattle.entry_base.specs.Callers.{SameCaller};
 ghost use Rattle.entry_base.specs.Sessions.{view, IsOf};
 
 use crate::asked::{FOUR, headers, word_at};
+use crate::asserts::assert_is;
 use crate::cycles::{begin_on, finish_settled, finish_with_one, open_with_roots};
 use crate::entries::{bind, bind_published, forget, link_to, make_four};
 use entry_base::{Session, Shared};
@@ -16,7 +17,6 @@ use plain_table::{OutOfMemory, Policy};
 use std::alloc::Global;
 use std::process::Abort;
 use sweeper::Area;
-use worked_asserts::assert_is;
 use worked_tables::{close_both, open_fresh};
 
 /// Makes a chain from object 0, which variable 0 holds, over 1 to 2, and object 3 apart. External field 0 of each object names a

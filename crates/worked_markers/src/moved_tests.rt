@@ -7,6 +7,7 @@ ghost use Rattle.entry_base.specs.Callers.{SameCaller};
 ghost use Rattle.entry_base.specs.Sessions.{view, IsOf};
 
 use crate::asked::{FOUR, headers, only, word_at};
+use crate::asserts::assert_is;
 use crate::cycles::{begin_on, cycle_over, finish_settled, open_with_roots};
 use crate::entries::{bind, forge_word, forget, make_four};
 use crate::scans::scan_lone;
@@ -18,7 +19,6 @@ use plain_table::{Compaction, OutOfMemory, Policy, Reply};
 use std::alloc::Global;
 use std::process::Abort;
 use sweeper::Area;
-use worked_asserts::assert_is;
 use worked_tables::{close_both, close_three, open, open_fresh};
 
 /// Makes the objects 0 to 3, whose first seven external fields name the cells at 1 to 7. Then only the fields 0 and 6 are left.

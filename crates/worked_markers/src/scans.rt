@@ -6,10 +6,10 @@ ghost use Rattle.entry_base.specs.Passed.{PassedField, PassedReference, field_of
 ghost use Rattle.entry_base.specs.Sessions.{view, IsOf};
 ghost use Rattle.mark_rule.specs.Marking.{InHands};
 
+use crate::asserts::assert_is;
 use entry_base::{Session, Shared};
 use mark_steps::{Evacuated, Mark, evacuate, mark, ref_at, scanned, word_at};
 use std::process::Abort;
-use worked_asserts::assert_is;
 
 /// Reads the word of a field of an object of the hands, which is a known one, and marks by it.
 pub(crate) fn mark_by(

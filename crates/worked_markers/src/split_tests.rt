@@ -9,6 +9,7 @@ ghost use Rattle.entry_base.specs.Openings.{sizes_in};
 ghost use Rattle.entry_base.specs.Sessions.{view, IsOf};
 
 use crate::asked::{FOUR, headers, word_at};
+use crate::asserts::assert_is;
 use crate::cycles::{begin_on, finish_settled, open_with_roots};
 use crate::entries::{bind, forget, link_to, make_four};
 use entry_base::{Session, Shared};
@@ -19,7 +20,6 @@ use std::alloc::Global;
 use std::process::Abort;
 use std::thread::{Threads, join};
 use sweeper::Area;
-use worked_asserts::assert_is;
 use worked_tables::{close_both, close_three, open_fresh};
 
 /// An image in a cycle with no area, whose roots 0 and 1 both refer to object 2, which refers to object 3. External field 0 of each

@@ -8,6 +8,7 @@ ghost use Rattle.entry_base.specs.Sessions.{view, IsChunkOf, IsOf};
 ghost use Rattle.worked_markers.specs.Thieves.{IsOneOfTwo};
 
 use crate::asked::word_at;
+use crate::asserts::assert_is;
 use crate::cycles::open_with_roots;
 use crate::many::{eight_chunks, image_of_many};
 use chunk_pool::{Pool, Thief};
@@ -16,7 +17,6 @@ use marker::{Dealt, Marker};
 use plain_table::OutOfMemory;
 use std::alloc::Global;
 use std::process::Abort;
-use worked_asserts::assert_is;
 use worked_tables::close_three;
 
 /// Takes the last thief of a list.

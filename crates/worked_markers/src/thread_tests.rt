@@ -9,6 +9,7 @@ ghost use Rattle.entry_base.specs.Openings.{phase_of, sizes_in};
 ghost use Rattle.entry_base.specs.Sessions.{view, IsOf};
 
 use crate::asked::{FOUR, headers, only};
+use crate::asserts::assert_is;
 use crate::cycles::{begin_on, finish_settled, finish_with_one, open_with_roots};
 use crate::entries::{bind, forget, link_to, make};
 use crate::split_tests::run_on_thread;
@@ -22,7 +23,6 @@ use std::alloc::Global;
 use std::process::Abort;
 use std::thread::{Threads, join};
 use sweeper::Area;
-use worked_asserts::assert_is;
 use worked_tables::{close_both, close_three, open, open_fresh};
 
 /// An image in a cycle with no area. Object 0, which variable 0 holds, refers to object 1, which refers to object 2. External field

@@ -3,12 +3,12 @@
 ghost use Rattle.std.specs.Prelude.{◌≤◌, IfOk};
 ghost use Rattle.mutator_calls.specs.Calls.{IsReady};
 
+use crate::asserts::assert_is;
 use entry_word::Shape;
 use mutator_calls::Mutator;
 use plain_table::{OutOfMemory, Reply};
 use std::alloc::Global;
 use tag_set::{Range, Tag};
-use worked_asserts::assert_is;
 
 /// The range of one tag.
 fn only(byte: u8) -> Range

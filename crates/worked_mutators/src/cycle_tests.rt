@@ -3,6 +3,7 @@
 ghost use Rattle.std.specs.Prelude.{◌≡◌, IfOk, slice_index};
 ghost use Rattle.mutator_calls.specs.Calls.{IsReady};
 
+use crate::asserts::assert_is;
 use entry_word::{Shape, word_of};
 use mutator_calls::{Mutator, Totals};
 use plain_table::{Compaction, OutOfMemory, Policy, Reply, SweepReport};
@@ -10,7 +11,6 @@ use std::alloc::Global;
 use std::process::Abort;
 use sweeper::late_mark;
 use tag_set::{Range, Tag};
-use worked_asserts::assert_is;
 
 const SHAPE: Shape = Shape {
     seg: 4,

@@ -2,11 +2,11 @@
 // evacuation area.
 ghost use Rattle.std.specs.Prelude.{◌≡◌, slice_index};
 
+use crate::asserts::assert_is;
 use entry_word::Shape;
 use mutator_calls::Mutator;
 use plain_table::{OutOfMemory, Policy, Reply};
 use tag_set::Tag;
-use worked_asserts::assert_is;
 
 const SHAPE: Shape = Shape {
     seg: 4,

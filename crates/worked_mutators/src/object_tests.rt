@@ -1,8 +1,8 @@
 // The calls of objects on a small table, and a link in a cycle, which lists its target once.
+use crate::asserts::assert_is;
 use entry_word::Shape;
 use mutator_calls::Mutator;
 use plain_table::{OutOfMemory, Policy, Reply};
-use worked_asserts::assert_is;
 
 const SHAPE: Shape = Shape {
     seg: 4,

@@ -1,11 +1,11 @@
 // Trusted entries on a small table: one that is made, published, shared and looked at, and each answer of these calls.
 ghost use Rattle.std.specs.Prelude.{◌≡◌, slice_index};
 
+use crate::asserts::assert_is;
 use entry_word::{Pending, Shape};
 use mutator_calls::Mutator;
 use plain_table::{OutOfMemory, Policy, Reply};
 use tag_set::{Range, Tag};
-use worked_asserts::assert_is;
 
 const SHAPE: Shape = Shape {
     seg: 4,

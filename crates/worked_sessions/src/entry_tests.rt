@@ -13,6 +13,7 @@ ghost use Rattle.entry_base.specs.Owns.{claim_of};
 ghost use Rattle.entry_base.specs.Sessions.{view, IsOf};
 ghost use Rattle.entry_base.specs.Views.{numbers_below};
 
+use crate::asserts::assert_is;
 use entry_base::{Session, Shared};
 use entry_rule::{exchange_step, look_step, put_external, put_trusted, store_step};
 use freelist_rule::{Steps, load_freelist, load_freelist_for_take, load_link, take_step};
@@ -21,7 +22,6 @@ use std::alloc::Global;
 use std::marker::Brand;
 use std::process::Abort;
 use std::sync::ledger::{Blank, Ledger};
-use worked_asserts::assert_is;
 use worked_tables::{SHAPE, close_both, close_whole, open_fresh, take_head, take_two, word_at};
 
 /// Looks at the external cell at index 1 under its tag, which answers its value.

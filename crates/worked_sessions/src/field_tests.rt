@@ -7,6 +7,7 @@ ghost use Rattle.entry_base.specs.Openings.{phase_of, sizes_in, start_of};
 ghost use Rattle.entry_base.specs.Owns.{IsHeld};
 ghost use Rattle.entry_base.specs.Sessions.{view, IsOf};
 
+use crate::asserts::assert_is;
 use entry_base::{Session, Shared};
 use entry_word::Image;
 use freelist_rule::Steps;
@@ -19,7 +20,6 @@ use std::alloc::Global;
 use std::marker::Brand;
 use std::process::Abort;
 use std::sync::ledger::{Blank, Ledger};
-use worked_asserts::assert_is;
 use worked_tables::{SHAPE, change_at, close_both, make_next, open_fresh, put_next};
 
 /// Puts the next external cell, and tries to bind it to external field 0 of object 0, which variable 0 holds. The answer is the word

@@ -5,9 +5,11 @@
 //! exchange: `entry_tests.rt` takes, fills and looks at entries, `segment_tests.rt` commits a segment, `object_tests.rt` and
 //! `field_tests.rt` make objects and bind, link and name their words, `trusted_tests.rt` binds and publishes trusted cells,
 //! `limit_tests.rt` comes to the limits, `session_tests.rt` splits and joins sessions, and `thread_tests.rt` makes the same try on two
-//! threads at once. Cycles stand in `worked_cycles`.
+//! threads at once; `asserts.rt` compares what was answered. Cycles stand in `worked_cycles`.
 #![tactic(auto)]
 
+#[cfg(test)]
+mod asserts;
 #[cfg(test)]
 mod entry_tests;
 #[cfg(test)]

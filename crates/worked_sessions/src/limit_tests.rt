@@ -12,6 +12,7 @@ ghost use Rattle.entry_base.specs.Openings.{phase_of, sizes_in, start_of};
 ghost use Rattle.entry_base.specs.Owns.{IsHeld};
 ghost use Rattle.entry_base.specs.Sessions.{view, IsOf};
 
+use crate::asserts::assert_is;
 use entry_base::{Session, Shared};
 use entry_rule::{look_beyond, look_step};
 use entry_word::{Image, Shape};
@@ -22,7 +23,6 @@ use std::alloc::Global;
 use std::marker::Brand;
 use std::process::Abort;
 use std::sync::ledger::{Blank, Ledger};
-use worked_asserts::assert_is;
 use worked_tables::{SHAPE, close_both, close_whole, make_next, open_fresh, take_head, take_two};
 
 /// Looks at the first index past the limit of each space, and at the last word: three faults.

@@ -1,11 +1,11 @@
 // Objects: they are made, held, linked and got on one thread, and two sessions try to make the same one.
 
+use crate::asserts::assert_is;
 use entry_word::Shape;
 use object_rule::{
     drop_step, get_global, get_reference, link_global, link_reference, load_count_for_new, new_step,
 };
 use plain_table::OutOfMemory;
-use worked_asserts::assert_is;
 use worked_tables::{close_both, close_three, open_fresh};
 
 pub(crate) const SHAPE: Shape = Shape {

@@ -6,6 +6,7 @@ ghost use Rattle.entry_base.specs.Callers.{SameCaller};
 ghost use Rattle.entry_base.specs.Lists.{Has};
 ghost use Rattle.entry_base.specs.Sessions.{view, IsOf};
 
+use crate::asserts::assert_is;
 use entry_base::{Session, Shared};
 use freelist_rule::{Steps, commit_step, link_entry, load_freelist};
 use plain_table::{OutOfMemory, Space};
@@ -13,7 +14,6 @@ use std::alloc::Global;
 use std::marker::Brand;
 use std::process::Abort;
 use std::sync::ledger::{Blank, Ledger};
-use worked_asserts::assert_is;
 use worked_tables::{SHAPE, close_both, commit_linked, link_two, open_fresh, take_three, word_at};
 
 /// Both sessions link the segment and commit it. The second one comes first.

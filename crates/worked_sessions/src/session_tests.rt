@@ -2,13 +2,13 @@
 ghost use Rattle.std.specs.Prelude.{◌≡◌};
 ghost use Rattle.entry_base.specs.Sessions.{view, IsOf};
 
+use crate::asserts::assert_is;
 use entry_base::{Session, Shared};
 use entry_word::Image;
 use object_rule::load_count;
 use plain_table::OutOfMemory;
 use std::alloc::Global;
 use std::thread::{Threads, join};
-use worked_asserts::assert_is;
 use worked_tables::{SHAPE, close_both, close_whole, open_fresh};
 
 #[test]

@@ -6,6 +6,7 @@ ghost use Rattle.entry_base.specs.Callers.{SameCaller};
 ghost use Rattle.entry_base.specs.Lists.{Has};
 ghost use Rattle.entry_base.specs.Sessions.{view, IsOf};
 
+use crate::asserts::assert_is;
 use entry_base::{Session, Shared};
 use freelist_rule::{Steps, load_freelist, load_link, take_step};
 use plain_table::{OutOfMemory, Space};
@@ -14,7 +15,6 @@ use std::marker::Brand;
 use std::process::Abort;
 use std::sync::ledger::{Blank, Ledger};
 use std::thread::{Threads, join};
-use worked_asserts::assert_is;
 use worked_tables::{
     SHAPE, close_both, close_three, commit_linked, link_two, open_fresh, take_three, try_new,
     word_at,
