@@ -2,8 +2,8 @@
 ghost use Rattle.entry_base.specs.Callers.{SameCaller};
 ghost use Rattle.entry_base.specs.Sessions.{view, IsOf};
 
-use crate::asked::{ONE, only, tag, word_at};
-use crate::asserts::assert_is;
+use crate::asked::{ONE, only, tag};
+use crate::asserts::{assert_is, assert_words};
 use crate::entries::{bind, make};
 use access_steps::{forge, init, load, name, raw_load, raw_store, store, swap};
 use entry_base::{Session, Shared};
@@ -98,9 +98,15 @@ fn each_answer_of_the_calls_by_external_fields(rt: HostRuntime) -> Result<(), Ou
     access_under_the_tag(&rt, &shared, &mut s);
     access_forged(&rt, &shared, &mut s);
     let image = close_both(shared, first, s);
-    assert_is(&rt, word_at(&rt, &image, 0), 0x1_0000_0003);
-    assert_is(&rt, word_at(&rt, &image, 37), 0xffff_ffff);
-    assert_is(&rt, word_at(&rt, &image, 41), 0x400f_ffff_ffff_ffff);
-    assert_is(&rt, word_at(&rt, &image, 42), 0x4017_0000_0000_00c1);
+    assert_words(
+        &rt,
+        &image,
+        &[
+            (0, 0x1_0000_0003),
+            (37, 0xffff_ffff),
+            (41, 0x400f_ffff_ffff_ffff),
+            (42, 0x4017_0000_0000_00c1),
+        ],
+    );
     Ok(())
 }

@@ -1,6 +1,7 @@
 // The assertion of these tests, as a function: one proof of what `assert_eq!` prints in place of one at each place.
 ghost use Rattle.std.specs.Prelude.{◌≡◌, true};
 
+use entry_word::Image;
 use std::fmt::Debug;
 use std::process::Abort;
 
@@ -9,4 +10,11 @@ pub(crate) fn assert_is<T: PartialEq + Debug + Drop>(rt: &impl Abort, found: T, 
     ensures { T.eq found wanted ≡ true }
 {
     assert_eq!(rt; found, wanted);
+}
+
+/// The same of the words at some places of an image.
+pub(crate) fn assert_words(rt: &impl Abort, image: &Image, wanted: &[(usize, u64)]) {
+    for (place, word) in wanted {
+        assert_eq!(rt; image.words.get(*place), Some(word), "the word at {place}");
+    }
 }

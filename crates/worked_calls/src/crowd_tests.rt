@@ -17,7 +17,7 @@ ghost use Rattle.entry_base.specs.Callers.{SameCaller};
 ghost use Rattle.entry_base.specs.Sessions.{view, IsOf};
 
 use crate::asked::{tag, word_at};
-use crate::asserts::assert_is;
+use crate::asserts::{assert_is, assert_words};
 use crate::cycles::begin_on;
 use crate::entries::{bind, make, put_new};
 use access_steps::init;
@@ -161,8 +161,7 @@ fn assert_work(rt: &impl Abort, image: &Image, number: usize, work: Work)
         entry_of(rt, image, work.word as u64),
         0x4017_0000_0000_00e0 + number as u64,
     );
-    assert_is(rt, word_at(rt, image, first + 1), 1);
-    assert_is(rt, word_at(rt, image, first + 7), 0x1_0000);
+    assert_words(rt, image, &[(first + 1, 1), (first + 7, 0x1_0000)]);
 }
 
 /// Whether the thread of a number won the common field: then the field's cell is its own, and else it was answered the field's word.
@@ -297,7 +296,6 @@ fn crowd_in_a_cycle(rt: &impl Abort, alloc: Global) -> Result<Image, OutOfMemory
 fn four_threads_work_and_mark_at_once_in_a_cycle(rt: HostRuntime) -> Result<(), OutOfMemory> {
     let image = crowd_in_a_cycle(&rt, rt.alloc())?;
     let after = assert_four(&rt, rt.alloc(), image)?;
-    assert_is(&rt, word_at(&rt, &after, 4), 1);
-    assert_is(&rt, word_at(&rt, &after, 113), 0x400f_0000_0000_00c0);
+    assert_words(&rt, &after, &[(4, 1), (113, 0x400f_0000_0000_00c0)]);
     Ok(())
 }

@@ -4,7 +4,7 @@ ghost use Rattle.entry_base.specs.Callers.{SameCaller};
 ghost use Rattle.entry_base.specs.Sessions.{view, IsOf};
 
 use crate::asked::{TWO, only, tag, word_at};
-use crate::asserts::assert_is;
+use crate::asserts::{assert_is, assert_words};
 use crate::cycles::{begin_on, cycle_over, finish_with_one};
 use crate::entries::make;
 use entry_base::{Session, Shared};
@@ -101,8 +101,11 @@ fn a_ticket_is_published_in_a_cycle_and_the_next_one_frees_its_cell(
     let mut s = first.split(&shared, 0, &[]);
     fill_again(&rt, &shared, &mut s);
     let image = close_both(shared, first, s);
-    assert_is(&rt, word_at(&rt, &image, 47), 0x0001_0000);
-    assert_is(&rt, word_at(&rt, &image, 53), 0x4817_0000_0000_00c1);
+    assert_words(
+        &rt,
+        &image,
+        &[(47, 0x0001_0000), (53, 0x4817_0000_0000_00c1)],
+    );
     Ok(())
 }
 

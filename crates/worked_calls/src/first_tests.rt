@@ -4,7 +4,7 @@ ghost use Rattle.entry_base.specs.Callers.{SameCaller};
 ghost use Rattle.entry_base.specs.Sessions.{view, IsOf};
 
 use crate::asked::{ONE, TWO, only, tag, word_at};
-use crate::asserts::assert_is;
+use crate::asserts::{assert_is, assert_words};
 use crate::entries::{bind, make};
 use access_steps::{init, load, name};
 use entry_base::{Session, Shared};
@@ -36,9 +36,15 @@ fn a_resource_is_loaded_under_its_tag_alone(rt: HostRuntime) -> Result<(), OutOf
     let mut s = first.split(&shared, 0, &[]);
     call_first_path(&rt, &shared, &mut s);
     let image = close_both(shared, first, s);
-    assert_is(&rt, word_at(&rt, &image, 0), 0x2_0000_0002);
-    assert_is(&rt, word_at(&rt, &image, 37), 0x0001_0000);
-    assert_is(&rt, word_at(&rt, &image, 41), 0x400f_0000_0000_00c0);
+    assert_words(
+        &rt,
+        &image,
+        &[
+            (0, 0x2_0000_0002),
+            (37, 0x0001_0000),
+            (41, 0x400f_0000_0000_00c0),
+        ],
+    );
     Ok(())
 }
 
@@ -71,8 +77,7 @@ fn an_init_finds_the_space_full(rt: HostRuntime) -> Result<(), OutOfMemory> {
     let full = init(&shared, &mut s, 1, 1, tag(&rt, 0x0f), 0xc3);
     assert_is(&rt, full, Reply::Full);
     let after = close_both(shared, first, s);
-    assert_is(&rt, word_at(&rt, &after, 0), 4);
-    assert_is(&rt, word_at(&rt, &after, 46), 0);
+    assert_words(&rt, &after, &[(0, 4), (46, 0)]);
     Ok(())
 }
 

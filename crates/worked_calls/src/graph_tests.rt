@@ -5,7 +5,7 @@ ghost use Rattle.entry_base.specs.Openings.{phase_of};
 ghost use Rattle.entry_base.specs.Sessions.{view, IsOf};
 
 use crate::asked::{TWO, word_at};
-use crate::asserts::assert_is;
+use crate::asserts::{assert_is, assert_words};
 use crate::cycles::begin_on;
 use crate::entries::make;
 use entry_base::{Session, Shared};
@@ -65,9 +65,7 @@ fn each_answer_of_the_calls_on_objects_outside_a_cycle(rt: HostRuntime) -> Resul
     let dropped = drop_var(&shared, &mut s, 0);
     assert_is(&rt, dropped, Reply::Ok);
     let image = close_both(shared, first, s);
-    assert_is(&rt, word_at(&rt, &image, 3), 2);
-    assert_is(&rt, word_at(&rt, &image, 31), 0);
-    assert_is(&rt, word_at(&rt, &image, 36), 0);
+    assert_words(&rt, &image, &[(3, 2), (31, 0), (36, 0)]);
     assert_is(&rt, image.vars.as_slice()[0], 0);
     assert_is(&rt, image.vars.as_slice()[1], 2);
     assert_is(&rt, image.vars.as_slice()[2], 0);
@@ -154,8 +152,6 @@ fn a_link_in_a_cycle_says_what_it_shaded(rt: HostRuntime) -> Result<(), OutOfMem
     assert_is(&rt, s.in_cycle(), true);
     link_a_white_object(&rt, &shared, &mut s);
     let image = close_both(shared, first, s);
-    assert_is(&rt, word_at(&rt, &image, 34), 2);
-    assert_is(&rt, word_at(&rt, &image, 35), 0);
-    assert_is(&rt, word_at(&rt, &image, 40), 1);
+    assert_words(&rt, &image, &[(34, 2), (35, 0), (40, 1)]);
     Ok(())
 }

@@ -7,7 +7,7 @@ ghost use Rattle.entry_base.specs.Callers.{SameCaller};
 ghost use Rattle.entry_base.specs.Sessions.{view, IsOf};
 
 use crate::asked::{FOUR, tag, word_at};
-use crate::asserts::assert_is;
+use crate::asserts::{assert_is, assert_words};
 use crate::entries::{bind, make};
 use access_steps::init;
 use entry_base::{Session, Shared};
@@ -49,16 +49,21 @@ fn image_at_the_end_of_a_segment(rt: &impl Abort, alloc: Global) -> Result<Image
 #[test]
 fn the_fourth_init_commits_the_second_segment(rt: HostRuntime) -> Result<(), OutOfMemory> {
     let before = image_at_the_end_of_a_segment(&rt, rt.alloc())?;
-    assert_is(&rt, word_at(&rt, &before, 0), 4);
-    assert_is(&rt, word_at(&rt, &before, 69), 1 << 57);
+    assert_words(&rt, &before, &[(0, 4), (69, 1 << 57)]);
     let (shared, mut first) = open(rt.alloc(), before)?;
     let mut s = first.split(&shared, 0, &[]);
     bind(&rt, &shared, &mut s, (1, 1), 0x0f, 0xc3);
     let after = close_both(shared, first, s);
-    assert_is(&rt, word_at(&rt, &after, 0), 0x3_0000_0005);
-    assert_is(&rt, word_at(&rt, &after, 68), 0x400f_0000_0000_00c3);
-    assert_is(&rt, word_at(&rt, &after, 69), 0x0100_0000_0000_0006);
-    assert_is(&rt, word_at(&rt, &after, 71), 0x0100_0000_0000_0008);
+    assert_words(
+        &rt,
+        &after,
+        &[
+            (0, 0x3_0000_0005),
+            (68, 0x400f_0000_0000_00c3),
+            (69, 0x0100_0000_0000_0006),
+            (71, 0x0100_0000_0000_0008),
+        ],
+    );
     Ok(())
 }
 

@@ -8,7 +8,7 @@ ghost use Rattle.entry_base.specs.Openings.{start_of};
 ghost use Rattle.entry_base.specs.Sessions.{view, IsOf};
 
 use crate::asked::{FOUR, tag, word_at};
-use crate::asserts::assert_is;
+use crate::asserts::{assert_is, assert_words};
 use crate::cycles::{begin_on, cycle_over};
 use crate::entries::{bind, make, put_new};
 use access_steps::{init, put};
@@ -56,8 +56,7 @@ fn take_all<L: Ledger>(rt: &impl Abort, alloc: Global, blank: Blank) -> Result<(
         panic!(rt; "the trusted space has another index");
     };
     let image = close_whole(shared, s);
-    assert_is(rt, word_at(rt, &image, 2), 4);
-    assert_is(rt, word_at(rt, &image, 0), 0x3_0000_0001);
+    assert_words(rt, &image, &[(2, 4), (0, 0x3_0000_0001)]);
     Ok(())
 }
 
@@ -79,13 +78,11 @@ fn a_segment_is_committed_where_the_list_is_empty(rt: HostRuntime) -> Result<(),
     assert_is(&rt, first, 0x1_0000);
     assert_is(&rt, second, 0x2_0000);
     assert_is(&rt, third, 0x3_0000);
-    assert_is(&rt, word_at(&rt, &image, 0), 4);
-    assert_is(&rt, word_at(&rt, &image, 68), 1 << 57);
+    assert_words(&rt, &image, &[(0, 4), (68, 1 << 57)]);
     let (shared, mut s) = open(rt.alloc(), image)?;
     commit_segment(&shared, &mut s, Space::External);
     let image = close_whole(shared, s);
-    assert_is(&rt, word_at(&rt, &image, 0), 0x4_0000_0004);
-    assert_is(&rt, word_at(&rt, &image, 68), (1 << 56) + 5);
+    assert_words(&rt, &image, &[(0, 0x4_0000_0004), (68, (1 << 56) + 5)]);
     Ok(())
 }
 
@@ -178,9 +175,15 @@ fn take_below_and_abort<L: Ledger>(
     put_below(rt, &shared, &mut first, 3, &mut steps);
     abort_where_full(rt, &shared, &mut first, &mut steps);
     let image = close_whole(shared, first);
-    assert_is(rt, word_at(rt, &image, 0), 0x3_0000_0005);
-    assert_is(rt, word_at(rt, &image, 1), 0x1_0000_0004);
-    assert_is(rt, word_at(rt, &image, 67), 0x400f_0000_0000_00c4);
+    assert_words(
+        rt,
+        &image,
+        &[
+            (0, 0x3_0000_0005),
+            (1, 0x1_0000_0004),
+            (67, 0x400f_0000_0000_00c4),
+        ],
+    );
     Ok(())
 }
 
@@ -207,7 +210,10 @@ fn an_init_in_the_area_aborts_the_compaction(rt: HostRuntime) -> Result<(), OutO
     let said = init(&shared, &mut s, 0, 0, tag(&rt, 0x0f), 0xc7);
     let image = close_both(shared, first, s);
     assert_is(&rt, said, Reply::Taken(0x4_0000));
-    assert_is(&rt, word_at(&rt, &image, 1), 0x1_0000_0004);
-    assert_is(&rt, word_at(&rt, &image, 69), 0x400f_0000_0000_00c7);
+    assert_words(
+        &rt,
+        &image,
+        &[(1, 0x1_0000_0004), (69, 0x400f_0000_0000_00c7)],
+    );
     Ok(())
 }

@@ -9,7 +9,7 @@ ghost use Rattle.entry_base.specs.Sessions.{view, IsOf};
 ghost use Rattle.entry_base.specs.Views.{numbers_below};
 
 use crate::asked::{ONE, only, tag, word_at};
-use crate::asserts::assert_is;
+use crate::asserts::{assert_is, assert_words};
 use crate::entries::{make, put_new};
 use access_steps::{init, load, raw_load};
 use entry_base::{Session, Shared};
@@ -76,8 +76,7 @@ fn assert_cells(rt: &impl Abort, image: &Image, in_order: bool) {
     } else {
         (0x4017_0000_0000_00d0, 0x400f_0000_0000_00c0)
     };
-    assert_is(rt, word_at(rt, image, 41), early);
-    assert_is(rt, word_at(rt, image, 42), late);
+    assert_words(rt, image, &[(41, early), (42, late)]);
 }
 
 /// Joins the sessions of both threads into the first one, which then loads by both words, and closes the table.

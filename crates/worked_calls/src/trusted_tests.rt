@@ -4,7 +4,7 @@ ghost use Rattle.entry_base.specs.Callers.{SameCaller};
 ghost use Rattle.entry_base.specs.Sessions.{view, IsOf};
 
 use crate::asked::{FOUR, TWO, only, tag, word_at};
-use crate::asserts::assert_is;
+use crate::asserts::{assert_is, assert_words};
 use crate::cycles::begin_on;
 use crate::entries::make;
 use entry_base::{Session, Shared};
@@ -108,14 +108,20 @@ fn each_answer_of_the_calls_by_trusted_fields(rt: HostRuntime) -> Result<(), Out
     share_published(&rt, &shared, &mut s);
     fill_last(&rt, &shared, &mut s);
     let image = close_both(shared, first, s);
-    assert_is(&rt, word_at(&rt, &image, 2), 4);
-    assert_is(&rt, word_at(&rt, &image, 39), 0x0001_0000);
-    assert_is(&rt, word_at(&rt, &image, 47), 0x0001_0000);
-    assert_is(&rt, word_at(&rt, &image, 55), 0x0003_0000);
-    assert_is(&rt, word_at(&rt, &image, 63), 0);
-    assert_is(&rt, word_at(&rt, &image, 73), 0x400f_0000_0000_00c0);
-    assert_is(&rt, word_at(&rt, &image, 74), 0x4817_0000_0000_00c1);
-    assert_is(&rt, word_at(&rt, &image, 75), 0x4017_0000_0000_00c2);
+    assert_words(
+        &rt,
+        &image,
+        &[
+            (2, 4),
+            (39, 0x0001_0000),
+            (47, 0x0001_0000),
+            (55, 0x0003_0000),
+            (63, 0),
+            (73, 0x400f_0000_0000_00c0),
+            (74, 0x4817_0000_0000_00c1),
+            (75, 0x4017_0000_0000_00c2),
+        ],
+    );
     Ok(())
 }
 
@@ -148,7 +154,10 @@ fn a_share_in_a_cycle_marks_the_cell(rt: HostRuntime) -> Result<(), OutOfMemory>
     let won = share(&shared, &mut s, 0, 1);
     assert_is(&rt, won, Reply::Ok);
     let image = close_both(shared, first, s);
-    assert_is(&rt, word_at(&rt, &image, 47), 0x0001_0000);
-    assert_is(&rt, word_at(&rt, &image, 53), 0x400f_0000_0000_00c0);
+    assert_words(
+        &rt,
+        &image,
+        &[(47, 0x0001_0000), (53, 0x400f_0000_0000_00c0)],
+    );
     Ok(())
 }

@@ -15,7 +15,7 @@ ghost use Rattle.entry_base.specs.Passed.{PassedField};
 ghost use Rattle.entry_base.specs.Sessions.{view, IsOf};
 ghost use Rattle.mark_rule.specs.Marking.{InHands};
 
-use crate::asserts::assert_is;
+use crate::asserts::{assert_is, assert_words};
 use crate::cycles::{image_to_move, open_with_roots};
 use crate::scan_tests::{pass_field, pass_reference, pass_three};
 use entry_base::{Session, Shared};
@@ -130,20 +130,27 @@ fn evacuate<L: Ledger, M: Ledger>(
     requires one { (made.parts ≡ 1) × (blank.parts ≡ 1) }
 {
     let image = image_to_move::<M>(rt, alloc, made)?;
-    assert_is(rt, word_at(&image, 0), Some(0x6_0000_0001));
-    assert_is(rt, word_at(&image, 32), Some(1));
-    assert_is(rt, word_at(&image, 65), Some((1 << 56) + 2));
-    assert_is(rt, word_at(&image, 68), Some(CELL));
+    assert_words(
+        rt,
+        &image,
+        &[(0, 0x6_0000_0001), (32, 1), (65, (1 << 56) + 2), (68, CELL)],
+    );
     let (shared, mut first, roots) = open_with_roots(alloc, image)?;
     assert!(rt; roots.as_slice() == [0].as_slice());
     let mut marker = first.split(&shared, 8, roots.as_slice());
     let mut steps = Steps::<L>::start(blank);
     scan_in_area(rt, &shared, &mut marker, &mut steps);
     let after = close_both(shared, first, marker);
-    assert_is(rt, word_at(&after, 0), Some(0x5_0000_0002));
-    assert_is(rt, word_at(&after, 32), Some(3));
-    assert_is(rt, word_at(&after, 65), Some(1 << 58));
-    assert_is(rt, word_at(&after, 68), Some(CELL + (1 << 62)));
+    assert_words(
+        rt,
+        &after,
+        &[
+            (0, 0x5_0000_0002),
+            (32, 3),
+            (65, 1 << 58),
+            (68, CELL + (1 << 62)),
+        ],
+    );
     Ok(())
 }
 
@@ -255,16 +262,21 @@ fn miss_and_abort<L: Ledger, M: Ledger>(
     requires one { (made.parts ≡ 1) × (blank.parts ≡ 1) }
 {
     let image = image_to_move::<M>(rt, alloc, made)?;
-    assert_is(rt, word_at(&image, 1), Some(4));
-    assert_is(rt, word_at(&image, 69), Some((1 << 56) + 6));
+    assert_words(rt, &image, &[(1, 4), (69, (1 << 56) + 6)]);
     let (shared, mut first) = open(alloc, image)?;
     let mut marker = first.split(&shared, 8, &[]);
     let mut steps = Steps::<L>::start(blank);
     spend_and_abort(rt, &shared, &mut first, &mut marker, &mut steps);
     let after = close_both(shared, first, marker);
-    assert_is(rt, word_at(&after, 0), Some(0x2_0000_0006));
-    assert_is(rt, word_at(&after, 1), Some(0x1_0000_0004));
-    assert_is(rt, word_at(&after, 69), Some(0x400f_0000_0000_00d0));
+    assert_words(
+        rt,
+        &after,
+        &[
+            (0, 0x2_0000_0006),
+            (1, 0x1_0000_0004),
+            (69, 0x400f_0000_0000_00d0),
+        ],
+    );
     Ok(())
 }
 
@@ -297,9 +309,11 @@ fn fill_below<L: Ledger, M: Ledger>(
     let mut steps = Steps::<L>::start(blank);
     put_below(rt, &shared, &mut session, &mut steps);
     let after = close_whole(shared, session);
-    assert_is(rt, word_at(&after, 0), Some(0x5_0000_0002));
-    assert_is(rt, word_at(&after, 1), Some(4));
-    assert_is(rt, word_at(&after, 65), Some(0x400f_0000_0000_00d0));
+    assert_words(
+        rt,
+        &after,
+        &[(0, 0x5_0000_0002), (1, 4), (65, 0x400f_0000_0000_00d0)],
+    );
     Ok(())
 }
 

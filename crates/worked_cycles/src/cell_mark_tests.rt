@@ -11,7 +11,7 @@ ghost use Rattle.entry_base.specs.Openings.{phase_of};
 ghost use Rattle.entry_base.specs.Sessions.{view, IsOf};
 ghost use Rattle.mark_rule.specs.Marking.{InHands};
 
-use crate::asserts::assert_is;
+use crate::asserts::{assert_is, assert_words};
 use crate::cycles::{image_to_mark, open_with_roots};
 use entry_base::{Session, Shared};
 use mark_rule::{load_mark, load_word, mark_step};
@@ -21,7 +21,7 @@ use std::alloc::Global;
 use std::marker::Brand;
 use std::process::Abort;
 use std::sync::ledger::{Blank, Ledger};
-use worked_tables::{SHAPE, close_three, word_at};
+use worked_tables::{SHAPE, close_three};
 
 /// The word of the trusted cell at index 1, unmarked.
 pub(crate) const UNMARKED: u64 = 0x000f_0000_0000_00d0;
@@ -139,8 +139,7 @@ fn mark_and_share<L: Ledger>(
     requires one { blank.parts ≡ 1 }
 {
     let image = image_to_mark::<L>(rt, alloc, blank)?;
-    assert_is(rt, word_at(&image, 73), Some(UNMARKED));
-    assert_is(rt, word_at(&image, 47), Some(0));
+    assert_words(rt, &image, &[(73, UNMARKED), (47, 0)]);
     let (shared, mut first, roots) = open_with_roots(alloc, image)?;
     assert!(rt; roots.as_slice() == [0].as_slice());
     let mut mutator = first.split(&shared, 0, &[]);
@@ -150,8 +149,7 @@ fn mark_and_share<L: Ledger>(
     find_marked(rt, &shared, &mut marker);
     share_marked(rt, &shared, &mut mutator);
     let after = close_three(shared, first, mutator, marker);
-    assert_is(rt, word_at(&after, 73), Some(MARKED));
-    assert_is(rt, word_at(&after, 47), Some(0x1_0000));
+    assert_words(rt, &after, &[(73, MARKED), (47, 0x1_0000)]);
     Ok(())
 }
 

@@ -4,7 +4,7 @@ ghost use Rattle.entry_base.specs.Callers.{SameCaller};
 ghost use Rattle.entry_base.specs.Openings.{phase_of};
 ghost use Rattle.entry_base.specs.Sessions.{view, IsOf};
 
-use crate::asserts::assert_is;
+use crate::asserts::{assert_is, assert_words};
 use crate::cycles::{image_to_mark, open_with_roots};
 use entry_base::{Session, Shared};
 use mark_rule::shade_seen;
@@ -14,7 +14,7 @@ use std::alloc::Global;
 use std::marker::Brand;
 use std::process::Abort;
 use std::sync::ledger::{Blank, Ledger};
-use worked_tables::{close_both, word_at};
+use worked_tables::close_both;
 
 /// Gets object 1 from reference 0 of object 0, which variable 0 holds, shades it, and links reference 1 of object 0 to it.
 fn shade_and_link(rt: &impl Abort, shared: &Shared, s: &mut Session)
@@ -41,16 +41,14 @@ fn link_in_cycle<L: Ledger>(rt: &impl Abort, alloc: Global, blank: Blank) -> Res
     requires one { blank.parts ≡ 1 }
 {
     let image = image_to_mark::<L>(rt, alloc, blank)?;
-    assert_is(rt, word_at(&image, 34), Some(0));
-    assert_is(rt, word_at(&image, 40), Some(0));
+    assert_words(rt, &image, &[(34, 0), (40, 0)]);
     let (shared, mut first, roots) = open_with_roots(alloc, image)?;
     assert!(rt; roots.as_slice() == [0].as_slice());
     let mut mutator = first.split(&shared, 0, &[]);
     assert_is(rt, mutator.in_cycle(), true);
     shade_and_link(rt, &shared, &mut mutator);
     let image = close_both(shared, first, mutator);
-    assert_is(rt, word_at(&image, 34), Some(2));
-    assert_is(rt, word_at(&image, 40), Some(1));
+    assert_words(rt, &image, &[(34, 2), (40, 1)]);
     Ok(())
 }
 

@@ -10,13 +10,13 @@ ghost use Rattle.entry_base.specs.Sessions.{view, IsOf};
 ghost use Rattle.entry_base.specs.Views.{numbers_below};
 ghost use Rattle.mark_rule.specs.Marking.{InHands};
 
-use crate::asserts::assert_is;
+use crate::asserts::{assert_is, assert_words};
 use crate::cycles::{image_in_a_cycle, open_with_roots};
 use entry_base::{Session, Shared, owed_objects};
 use mark_rule::{load_reference, load_word};
 use plain_table::OutOfMemory;
 use std::process::Abort;
-use worked_tables::{close_both, close_whole, open, word_at};
+use worked_tables::{close_both, close_whole, open};
 
 #[test]
 fn an_object_that_a_variable_holds_is_the_root_of_a_cycle(
@@ -25,9 +25,7 @@ fn an_object_that_a_variable_holds_is_the_root_of_a_cycle(
     let image = image_in_a_cycle(&rt, rt.alloc())?;
     let roots = owed_objects(rt.alloc(), &image)?;
     assert_is(&rt, roots.as_slice(), [0].as_slice());
-    assert_is(&rt, word_at(&image, 4), Some(1));
-    assert_is(&rt, word_at(&image, 32), Some(1));
-    assert_is(&rt, word_at(&image, 40), Some(3));
+    assert_words(&rt, &image, &[(4, 1), (32, 1), (40, 3)]);
     Ok(())
 }
 

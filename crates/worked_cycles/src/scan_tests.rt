@@ -8,7 +8,7 @@ ghost use Rattle.entry_base.specs.Passed.{field_of, IsPassed, PassedField, Passe
 ghost use Rattle.entry_base.specs.Sessions.{view, IsOf};
 ghost use Rattle.mark_rule.specs.Marking.{InHands};
 
-use crate::asserts::assert_is;
+use crate::asserts::{assert_is, assert_words};
 use crate::cycles::{image_in_a_cycle, image_to_mark, open_with_roots};
 use entry_base::{Session, Shared};
 use entry_word::Image;
@@ -265,8 +265,7 @@ fn a_field_whose_word_names_no_cell_is_passed_without_a_mark(
     forge_free(&rt, &shared, &mut mutator);
     pass_forged(&rt, &shared, &mut marker);
     let image = close_three(shared, first, mutator, marker);
-    assert_is(&rt, word_at(&image, 38), Some(0x2_0000));
-    assert_is(&rt, word_at(&image, 66), Some(FREE));
+    assert_words(&rt, &image, &[(38, 0x2_0000), (66, FREE)]);
     Ok(())
 }
 

@@ -7,7 +7,7 @@ ghost use Rattle.entry_base.specs.Callers.{SameCaller};
 ghost use Rattle.entry_base.specs.Lists.{Has};
 ghost use Rattle.entry_base.specs.Sessions.{view, hands_of, IsOf, IsChunkOf};
 
-use crate::asserts::assert_is;
+use crate::asserts::{assert_is, assert_words};
 use crate::cell_mark_tests::{MARKED, UNMARKED, find_held, find_in_hands, mark_found};
 use crate::cycles::{image_in_a_cycle, image_to_mark, open_with_roots};
 use crate::scan_tests::{pass_field, pass_reference, pass_three};
@@ -132,8 +132,7 @@ fn a_chunk_is_scanned_on_one_thread_while_another_makes_an_object(
     rt: HostRuntime,
 ) -> Result<(), OutOfMemory> {
     let image = image_in_a_cycle(&rt, rt.alloc())?;
-    assert_is(&rt, word_at(&image, 32), Some(1));
-    assert_is(&rt, word_at(&image, 3), Some(1));
+    assert_words(&rt, &image, &[(32, 1), (3, 1)]);
     let (shared, mut first, roots) = open_with_roots(rt.alloc(), image)?;
     assert!(rt; roots.as_slice() == [0].as_slice());
     let mutator = first.split(&shared, 0, &[]);
@@ -142,8 +141,6 @@ fn a_chunk_is_scanned_on_one_thread_while_another_makes_an_object(
     let (marker, (mutator, made)) = scan_and_new(&rt, &shared, (marker, chunk), mutator);
     let image = close_three(shared, first, mutator, marker);
     assert!(rt; made);
-    assert_is(&rt, word_at(&image, 32), Some(3));
-    assert_is(&rt, word_at(&image, 3), Some(2));
-    assert_is(&rt, word_at(&image, 40), Some(3));
+    assert_words(&rt, &image, &[(32, 3), (3, 2), (40, 3)]);
     Ok(())
 }

@@ -8,7 +8,7 @@ ghost use Rattle.entry_base.specs.Sessions.{view, IsOf};
 ghost use Rattle.mark_rule.specs.Marking.{InHands};
 
 use crate::asked::{FOUR, headers, word_at};
-use crate::asserts::assert_is;
+use crate::asserts::{assert_is, assert_words};
 use crate::cycles::{begin_on, open_with_roots};
 use crate::entries::{bind, bind_published, forge_word, forget, link_to, make};
 use crate::scans::{evacuate_by, mark_by};
@@ -100,9 +100,15 @@ fn each_answer_of_the_calls_on_an_object_of_the_hands(rt: HostRuntime) -> Result
     mark_external(&rt, &shared, &mut s);
     let image = close_both(shared, first, s);
     assert_is(&rt, headers(&rt, &image), [1, 0, 3, 3]);
-    assert_is(&rt, word_at(&rt, &image, 65), 0x400f_0000_0000_00c1);
-    assert_is(&rt, word_at(&rt, &image, 73), 0x400f_0000_0000_00d1);
-    assert_is(&rt, word_at(&rt, &image, 74), 0x000f_0000_0000_00d2);
+    assert_words(
+        &rt,
+        &image,
+        &[
+            (65, 0x400f_0000_0000_00c1),
+            (73, 0x400f_0000_0000_00d1),
+            (74, 0x000f_0000_0000_00d2),
+        ],
+    );
     Ok(())
 }
 

@@ -6,8 +6,8 @@ ghost use Rattle.sweeper.specs.Begin.{HasRoom};
 ghost use Rattle.entry_base.specs.Callers.{SameCaller};
 ghost use Rattle.entry_base.specs.Sessions.{view, IsOf};
 
-use crate::asked::{TWO, word_at};
-use crate::asserts::assert_is;
+use crate::asked::TWO;
+use crate::asserts::{assert_is, assert_words};
 use crate::cycles::{begin_on, open_with_roots};
 use crate::entries::{bind, forge_word, make};
 use crate::scans::{evacuate_by, mark_by};
@@ -95,7 +95,10 @@ fn an_evacuation_with_no_index_below_the_area_aborts_the_compaction(
     forge_word(&rt, &shared, &mut mutator, 0, 0, 0x0005_0000);
     mark_forged(&rt, &shared, &mut marker);
     let image = close_three(shared, first, marker, mutator);
-    assert_is(&rt, word_at(&rt, &image, 52), 0x400f_0000_0000_00c4);
-    assert_is(&rt, word_at(&rt, &image, 49), 0x000f_0000_0000_00c1);
+    assert_words(
+        &rt,
+        &image,
+        &[(52, 0x400f_0000_0000_00c4), (49, 0x000f_0000_0000_00c1)],
+    );
     Ok(())
 }

@@ -6,8 +6,8 @@ ghost use Rattle.sweeper.specs.Begin.{HasRoom};
 ghost use Rattle.entry_base.specs.Callers.{SameCaller};
 ghost use Rattle.entry_base.specs.Sessions.{view, IsOf};
 
-use crate::asked::{FOUR, headers, word_at};
-use crate::asserts::assert_is;
+use crate::asked::{FOUR, headers};
+use crate::asserts::{assert_is, assert_words};
 use crate::cycles::{begin_on, finish_settled, finish_with_one, open_with_roots};
 use crate::entries::{bind, bind_published, forget, link_to, make_four};
 use entry_base::{Session, Shared};
@@ -56,11 +56,17 @@ fn chain(rt: &impl Abort, alloc: Global) -> Result<(Image, Area), OutOfMemory>
 /// Asserts that the cells of the chain are marked and the one of the object apart is not.
 fn assert_marked(rt: &impl Abort, image: &Image) {
     assert_is(rt, headers(rt, image), [3, 3, 3, 0]);
-    assert_is(rt, word_at(rt, image, 65), 0x400f_0000_0000_00c1);
-    assert_is(rt, word_at(rt, image, 66), 0x400f_0000_0000_00c2);
-    assert_is(rt, word_at(rt, image, 67), 0x400f_0000_0000_00c3);
-    assert_is(rt, word_at(rt, image, 68), 0x000f_0000_0000_00c4);
-    assert_is(rt, word_at(rt, image, 73), 0x400f_0000_0000_00d1);
+    assert_words(
+        rt,
+        image,
+        &[
+            (65, 0x400f_0000_0000_00c1),
+            (66, 0x400f_0000_0000_00c2),
+            (67, 0x400f_0000_0000_00c3),
+            (68, 0x000f_0000_0000_00c4),
+            (73, 0x400f_0000_0000_00d1),
+        ],
+    );
 }
 
 #[test]

@@ -7,7 +7,7 @@ ghost use Rattle.entry_base.specs.Callers.{SameCaller};
 ghost use Rattle.entry_base.specs.Sessions.{view, IsOf};
 
 use crate::asked::{FOUR, headers, only, word_at};
-use crate::asserts::assert_is;
+use crate::asserts::{assert_is, assert_words};
 use crate::cycles::{begin_on, cycle_over, finish_settled, open_with_roots};
 use crate::entries::{bind, forge_word, forget, make_four};
 use crate::scans::scan_lone;
@@ -129,8 +129,11 @@ fn a_word_that_is_forged_after_the_visit_does_not_follow_the_moved_cell(
     let mut s = first.split(&shared, 0, &[]);
     load_moved(&rt, &shared, &mut s);
     let image = close_both(shared, first, s);
-    assert_is(&rt, word_at(&rt, &image, 61), 0x0002_0000);
-    assert_is(&rt, word_at(&rt, &image, 66), 0x000f_0000_0000_00c7);
+    assert_words(
+        &rt,
+        &image,
+        &[(61, 0x0002_0000), (66, 0x000f_0000_0000_00c7)],
+    );
     Ok(())
 }
 

@@ -8,8 +8,8 @@ ghost use Rattle.entry_base.specs.Lists.{AreIn, count_in};
 ghost use Rattle.entry_base.specs.Openings.{sizes_in};
 ghost use Rattle.entry_base.specs.Sessions.{view, IsOf};
 
-use crate::asked::{FOUR, headers, word_at};
-use crate::asserts::assert_is;
+use crate::asked::{FOUR, headers};
+use crate::asserts::{assert_is, assert_words};
 use crate::cycles::{begin_on, finish_settled, open_with_roots};
 use crate::entries::{bind, forget, link_to, make_four};
 use entry_base::{Session, Shared};
@@ -101,8 +101,11 @@ fn two_markers_scan_each_object_once(rt: HostRuntime) -> Result<(), OutOfMemory>
     assert_is(&rt, here.saturating_add(there), 4);
     let mut image = close_three(shared, first, one, two);
     assert_is(&rt, headers(&rt, &image), [3, 3, 3, 3]);
-    assert_is(&rt, word_at(&rt, &image, 67), 0x400f_0000_0000_00c3);
-    assert_is(&rt, word_at(&rt, &image, 68), 0x400f_0000_0000_00c4);
+    assert_words(
+        &rt,
+        &image,
+        &[(67, 0x400f_0000_0000_00c3), (68, 0x400f_0000_0000_00c4)],
+    );
     let report = finish_settled(&rt, &mut image, area, FOUR);
     assert!(rt; report.kept == 4 && report.freed == 0);
     Ok(())

@@ -7,8 +7,7 @@ ghost use Rattle.entry_base.specs.Openings.{sizes_in};
 ghost use Rattle.entry_base.specs.Sessions.{view, IsChunkOf, IsOf};
 ghost use Rattle.worked_markers.specs.Thieves.{IsOneOfTwo};
 
-use crate::asked::word_at;
-use crate::asserts::assert_is;
+use crate::asserts::{assert_is, assert_words};
 use crate::cycles::open_with_roots;
 use crate::many::{eight_chunks, image_of_many};
 use chunk_pool::{Pool, Thief};
@@ -132,10 +131,16 @@ fn the_first_of_two_markers_steals_all_chunks(rt: HostRuntime) -> Result<(), Out
         (thief, other),
     );
     let image = close_three(shared, first, mutator, late);
-    assert_is(&rt, word_at(&rt, &image, 32), 1);
-    assert_is(&rt, word_at(&rt, &image, 40), 3);
-    assert_is(&rt, word_at(&rt, &image, 48), 0);
-    assert_is(&rt, word_at(&rt, &image, 32 + 8 * 499), 3);
-    assert_is(&rt, word_at(&rt, &image, 32 + 8 * 500), 0);
+    assert_words(
+        &rt,
+        &image,
+        &[
+            (32, 1),
+            (40, 3),
+            (48, 0),
+            (32 + 8 * 499, 3),
+            (32 + 8 * 500, 0),
+        ],
+    );
     Ok(())
 }

@@ -13,7 +13,7 @@ ghost use Rattle.entry_base.specs.Owns.{claim_of};
 ghost use Rattle.entry_base.specs.Sessions.{view, IsOf};
 ghost use Rattle.entry_base.specs.Views.{numbers_below};
 
-use crate::asserts::assert_is;
+use crate::asserts::{assert_is, assert_words};
 use entry_base::{Session, Shared};
 use entry_rule::{exchange_step, look_step, put_external, put_trusted, store_step};
 use freelist_rule::{Steps, load_freelist, load_freelist_for_take, load_link, take_step};
@@ -85,8 +85,11 @@ fn put_and_store<L: Ledger>(rt: &impl Abort, alloc: Global, blank: Blank) -> Res
     let image = close_whole(shared, session);
     assert_is(rt, stored, 0x400f_0000_0000_00d0);
     assert_is(rt, exchanged, 0x400f_0000_0000_00e0);
-    assert_is(rt, word_at(&image, 0), Some(0x2_0000_0002));
-    assert_is(rt, word_at(&image, 65), Some(0x400f_0000_0000_00e0));
+    assert_words(
+        rt,
+        &image,
+        &[(0, 0x2_0000_0002), (65, 0x400f_0000_0000_00e0)],
+    );
     Ok(())
 }
 
@@ -163,8 +166,7 @@ fn fill_trusted<L: Ledger>(rt: &impl Abort, alloc: Global, blank: Blank) -> Resu
     let spent = load_freelist_for_take(&shared, &mut session, Space::Trusted);
     let image = close_whole(shared, session);
     assert_is(rt, spent, 4);
-    assert_is(rt, word_at(&image, 2), Some(4));
-    assert_is(rt, word_at(&image, 73), Some(0x480f_0000_0000_00c0));
+    assert_words(rt, &image, &[(2, 4), (73, 0x480f_0000_0000_00c0)]);
     Ok(())
 }
 

@@ -6,7 +6,7 @@ ghost use Rattle.entry_base.specs.Callers.{SameCaller};
 ghost use Rattle.entry_base.specs.Lists.{Has};
 ghost use Rattle.entry_base.specs.Sessions.{view, IsOf};
 
-use crate::asserts::assert_is;
+use crate::asserts::{assert_is, assert_words};
 use entry_base::{Session, Shared};
 use freelist_rule::{Steps, commit_step, link_entry, load_freelist};
 use plain_table::{OutOfMemory, Space};
@@ -14,7 +14,7 @@ use std::alloc::Global;
 use std::marker::Brand;
 use std::process::Abort;
 use std::sync::ledger::{Blank, Ledger};
-use worked_tables::{SHAPE, close_both, commit_linked, link_two, open_fresh, take_three, word_at};
+use worked_tables::{SHAPE, close_both, commit_linked, link_two, open_fresh, take_three};
 
 /// Both sessions link the segment and commit it. The second one comes first.
 fn commit_twice(rt: &impl Abort, shared: &Shared, first: &mut Session, second: &mut Session)
@@ -54,9 +54,15 @@ fn link_and_commit<L: Ledger>(
     assert_is(rt, last, Some(3));
     commit_twice(rt, &shared, &mut first, &mut second);
     let image = close_both(shared, first, second);
-    assert_is(rt, word_at(&image, 0), Some(0x4_0000_0004));
-    assert_is(rt, word_at(&image, 69), Some(0x0100_0000_0000_0006));
-    assert_is(rt, word_at(&image, 70), Some(0x0100_0000_0000_0007));
+    assert_words(
+        rt,
+        &image,
+        &[
+            (0, 0x4_0000_0004),
+            (69, 0x0100_0000_0000_0006),
+            (70, 0x0100_0000_0000_0007),
+        ],
+    );
     Ok(())
 }
 

@@ -6,7 +6,7 @@ ghost use Rattle.entry_base.specs.Callers.{SameCaller};
 ghost use Rattle.entry_base.specs.Lists.{Has};
 ghost use Rattle.entry_base.specs.Sessions.{view, IsOf};
 
-use crate::asserts::assert_is;
+use crate::asserts::{assert_is, assert_words};
 use entry_base::{Session, Shared};
 use freelist_rule::{Steps, load_freelist, load_link, take_step};
 use plain_table::{OutOfMemory, Space};
@@ -166,9 +166,11 @@ fn link_at_once<R: Threads + Sync + Abort, L: Ledger>(
     let ((first, here), (other, there)) = both_link(rt, &shared, first, other);
     let image = close_both(shared, first, other);
     assert!(rt; here == 4 && there == 0x4_0000_0004 || here == 0x4_0000_0004 && there == 4);
-    assert_is(rt, word_at(&image, 0), Some(0x4_0000_0004));
-    assert_is(rt, word_at(&image, 68), Some((1 << 56) + 5));
-    assert_is(rt, word_at(&image, 71), Some((1 << 56) + 8));
+    assert_words(
+        rt,
+        &image,
+        &[(0, 0x4_0000_0004), (68, (1 << 56) + 5), (71, (1 << 56) + 8)],
+    );
     Ok(())
 }
 
