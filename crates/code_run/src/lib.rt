@@ -6,8 +6,12 @@
 //! stands in the lists after it.
 #![tactic(auto)]
 
+#[cfg(test)]
+mod asserts;
 mod main_call;
 mod run;
+#[cfg(test)]
+mod step_tests;
 #[cfg(test)]
 mod tests;
 mod workers;

@@ -1,6 +1,7 @@
 ghost use Rattle.std.specs.Prelude.{◌<◌, length};
 ghost use Rattle.code_steps.specs.Seats.{view, IsOf};
 
+use crate::asserts::assert_is;
 use crate::{CodeStatus, code_main, open_table, run_codes};
 use code_steps::{CodeRead, CodeSeat, CodeTable, read, write};
 use ept_io::MemorySink;
@@ -17,13 +18,13 @@ const MOST_RUNS: u32 = 1_000;
 fn a_thousand_calls_of_each(rt: HostRuntime) -> Result<(), Fail> {
     let (table, mut seat) = open_table(rt.alloc())?;
     let report = run_codes(&rt, &table, &mut seat, 1000);
-    assert!(rt;
-        report.done >= 1,
-        "a write is busy only where another has claimed"
+    let calls = (report.done + report.busy, report.pairs + report.again);
+    // A write is busy only where another has claimed.
+    assert_is(
+        &rt,
+        (report.done >= 1, calls, report.bad),
+        (true, (2000, 2000), 0),
     );
-    assert!(rt; report.done + report.busy == 2000);
-    assert!(rt; report.pairs + report.again == 2000);
-    assert_eq!(rt; report.bad, 0);
     Ok(())
 }
 
@@ -38,7 +39,8 @@ fn the_workers_of_a_run_meet(rt: HostRuntime) -> Result<(), Fail> {
             break;
         }
     }
-    assert!(rt; met, "no call of any run met a write that was under way");
+    // A call of a run met a write that was under way.
+    assert_is(&rt, met, true);
     Ok(())
 }
 
@@ -67,7 +69,8 @@ fn readers_see_writers_at_work(rt: HostRuntime) -> Result<(), Fail> {
         || watch(shared, other, u32::MAX),
         || write(shared, &mut seat, 0, 1, (1 << 32) + 1),
     );
-    assert!(rt; seen, "the threads never met");
+    // The threads met.
+    assert_is(&rt, seen, true);
     Ok(())
 }
 
@@ -114,8 +117,7 @@ fn words_and_lines(rt: HostRuntime) -> Result<(), Fail> {
             &table,
             &mut seat,
         );
-        assert_eq!(rt; answer, status);
-        assert_eq!(rt; sink.bytes(), line.as_bytes());
+        assert_is(&rt, (answer, sink.bytes()), (status, line.as_bytes()));
     }
     Ok(())
 }

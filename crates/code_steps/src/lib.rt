@@ -12,8 +12,6 @@ mod calls;
 mod plays;
 mod seat;
 mod table;
-#[cfg(test)]
-mod tests;
 mod view;
 
 pub use calls::{CodeRead, Wrote, read, write};

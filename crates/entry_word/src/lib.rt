@@ -13,8 +13,6 @@ ghost use Rattle.entry_word.specs.Entry.{IsValid, IsTagged, entry_word, tagged_w
 
 mod image;
 mod index_word;
-#[cfg(test)]
-mod tests;
 
 pub use image::{Image, Pending, Shape};
 pub use index_word::{index_of, word_of};

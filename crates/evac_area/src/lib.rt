@@ -7,9 +7,6 @@
 ghost use Rattle.std.specs.Prelude.{◌≡◌, ℕ, ◌-◌, ◌*◌, ◌<◌, ◌≤◌, IfSome};
 ghost use Rattle.plain_table.specs.Area.{area_segments, area_start};
 
-#[cfg(test)]
-mod tests;
-
 use plain_table::Policy;
 
 /// The first index of the evacuation area, or None where there is no area: of the first `segs` segments of `seg_size`

@@ -11,9 +11,6 @@ ghost use Rattle.plain_table.specs.Words.{freelist_word, next_free};
 ghost use Rattle.free_chain.specs.Chain.{FreelistsAreChains, IsNextFree, is_used};
 ghost use Rattle.free_chain.specs.Rank.{HeadsAreTaken, RanksRise, WordsComeOnce};
 
-#[cfg(test)]
-mod tests;
-
 /// The length stands in bits 32 to 63, above the head.
 const LENGTH_SHIFT: u32 = 32;
 

@@ -9,8 +9,6 @@
 mod freelists;
 mod segments;
 mod steps;
-#[cfg(test)]
-mod tests;
 
 pub use freelists::{
     below_step, load_freelist, load_freelist_for_below, load_freelist_for_take, load_link,

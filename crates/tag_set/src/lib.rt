@@ -9,8 +9,6 @@
 mod ranges;
 mod stripping;
 mod tags;
-#[cfg(test)]
-mod tests;
 
 pub use ranges::Range;
 pub use stripping::{strip, strip_tests_the_range};

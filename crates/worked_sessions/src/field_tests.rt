@@ -73,10 +73,7 @@ fn bind_both<L: Ledger>(rt: &impl Abort, shared: &Shared, s: &mut Session, steps
     let won = bind_next(rt, shared, s, 0x3_0000_0001, 2, 0xc0, steps);
     let bound = field_word(rt, shared, s, 0);
     let taken = bind_next(rt, shared, s, 0x2_0000_0002, 3, 0xd0, steps);
-    assert_is(rt, empty, 0);
-    assert_is(rt, won, 0);
-    assert_is(rt, bound, 0x1_0000);
-    assert_is(rt, taken, 0x1_0000);
+    assert_is(rt, (empty, won, bound, taken), (0, 0, 0x1_0000, 0x1_0000));
 }
 
 fn bind_twice<L: Ledger>(rt: &impl Abort, alloc: Global, blank: Blank) -> Result<(), OutOfMemory>
@@ -92,16 +89,18 @@ fn bind_twice<L: Ledger>(rt: &impl Abort, alloc: Global, blank: Blank) -> Result
     assert!(rt; make_next(&shared, &mut one, 0, 0));
     bind_both(rt, &shared, &mut one, &mut steps);
     let after = close_both(shared, first, one);
-    assert_is(rt, change_at(&before, &after, 37), Some((0, 0x1_0000)));
     assert_is(
         rt,
-        change_at(&before, &after, 65),
-        Some(((1 << 56) + 2, 0x400f_0000_0000_00c0)),
-    );
-    assert_is(
-        rt,
-        change_at(&before, &after, 66),
-        Some(((1 << 56) + 3, 0x400f_0000_0000_00d0)),
+        (
+            change_at(&before, &after, 37),
+            change_at(&before, &after, 65),
+            change_at(&before, &after, 66),
+        ),
+        (
+            Some((0, 0x1_0000)),
+            Some(((1 << 56) + 2, 0x400f_0000_0000_00c0)),
+            Some(((1 << 56) + 3, 0x400f_0000_0000_00d0)),
+        ),
     );
     Ok(())
 }
@@ -134,8 +133,14 @@ fn any_word_is_forged_into_an_external_field(rt: HostRuntime) -> Result<(), OutO
     assert!(rt; make_next(&shared, &mut one, 0, 0));
     forge_second(&rt, &shared, &mut one);
     let after = close_both(shared, first, one);
-    assert_is(&rt, change_at(&before, &after, 38), Some((0, 0xffff_0007)));
-    assert_is(&rt, change_at(&before, &after, 37), Some((0, 0)));
+    assert_is(
+        &rt,
+        (
+            change_at(&before, &after, 38),
+            change_at(&before, &after, 37),
+        ),
+        (Some((0, 0xffff_0007)), Some((0, 0))),
+    );
     Ok(())
 }
 
@@ -177,11 +182,16 @@ fn a_global_that_holds_nothing_is_got_linked_and_emptied(
     link_globals(&rt, &shared, &mut one);
     assert_is(&rt, global_word(&shared, &mut one, 1, 3), 1);
     assert_is(&rt, global_word(&shared, &mut one, 2, 4), 0);
-    assert_is(&rt, one.held(1), Some(0));
-    assert_is(&rt, one.held(2), None);
+    assert_is(&rt, (one.held(1), one.held(2)), (Some(0), None));
     let after = close_both(shared, first, one);
-    assert_is(&rt, change_at(&before, &after, 19), Some((0, 1)));
-    assert_is(&rt, change_at(&before, &after, 20), Some((0, 0)));
+    assert_is(
+        &rt,
+        (
+            change_at(&before, &after, 19),
+            change_at(&before, &after, 20),
+        ),
+        (Some((0, 1)), Some((0, 0))),
+    );
     Ok(())
 }
 
@@ -214,7 +224,13 @@ fn a_reference_that_holds_nothing_is_got_linked_and_emptied(
     assert!(rt; make_next(&shared, &mut one, 0, 0));
     link_references(&rt, &shared, &mut one);
     let after = close_both(shared, first, one);
-    assert_is(&rt, change_at(&before, &after, 35), Some((0, 1)));
-    assert_is(&rt, change_at(&before, &after, 36), Some((0, 0)));
+    assert_is(
+        &rt,
+        (
+            change_at(&before, &after, 35),
+            change_at(&before, &after, 36),
+        ),
+        (Some((0, 1)), Some((0, 0))),
+    );
     Ok(())
 }

@@ -95,9 +95,11 @@ fn spend_trusted<L: Ledger>(rt: &impl Abort, alloc: Global, blank: Blank) -> Res
     find_full(rt, &shared, &mut session);
     let left = load_freelist_for_take(&shared, &mut session, Space::External);
     let after = close_whole(shared, session);
-    assert_is(rt, free, 0x3_0000_0001);
-    assert_is(rt, left, 0x3_0000_0001);
-    assert_is(rt, after.words.as_slice()[2], 4);
+    assert_is(
+        rt,
+        (free, left, after.words.as_slice()[2]),
+        (0x3_0000_0001, 0x3_0000_0001, 4),
+    );
     Ok(())
 }
 
@@ -136,9 +138,15 @@ fn a_second_object_finds_the_heap_full(rt: HostRuntime) -> Result<(), OutOfMemor
     find_heap_full(&rt, &shared, &mut one);
     assert_is(&rt, one.held(1), None);
     let after = close_both(shared, first, one);
-    assert_is(&rt, before.words.as_slice()[3], 0);
-    assert_is(&rt, after.words.as_slice()[3], 1);
-    assert_is(&rt, after.vars.as_slice()[1], 0);
+    assert_is(
+        &rt,
+        (
+            before.words.as_slice()[3],
+            after.words.as_slice()[3],
+            after.vars.as_slice()[1],
+        ),
+        (0, 1, 0),
+    );
     Ok(())
 }
 
@@ -154,8 +162,7 @@ fn new_twice(rt: &impl Abort, shared: &Shared, s: &mut Session)
     assert_is(rt, count, 0);
     let won = new_step(shared, s, 0, 0);
     let missed = new_step(shared, s, 1, 0);
-    assert_is(rt, won, 0);
-    assert_is(rt, missed, 1);
+    assert_is(rt, (won, missed), (0, 1));
 }
 
 #[test]
@@ -163,11 +170,16 @@ fn a_new_object_by_an_old_count_misses(rt: HostRuntime) -> Result<(), OutOfMemor
     let (shared, mut first) = open_fresh(rt.alloc(), SHAPE)?;
     let mut one = first.split(&shared, 0, &[]);
     new_twice(&rt, &shared, &mut one);
-    assert_is(&rt, one.held(0), Some(0));
-    assert_is(&rt, one.held(1), None);
+    assert_is(&rt, (one.held(0), one.held(1)), (Some(0), None));
     let after = close_both(shared, first, one);
-    assert_is(&rt, after.words.as_slice()[3], 1);
-    assert_is(&rt, after.vars.as_slice()[0], 1);
-    assert_is(&rt, after.vars.as_slice()[1], 0);
+    assert_is(
+        &rt,
+        (
+            after.words.as_slice()[3],
+            after.vars.as_slice()[0],
+            after.vars.as_slice()[1],
+        ),
+        (1, 1, 0),
+    );
     Ok(())
 }

@@ -26,10 +26,16 @@ fn an_object_is_made_and_got_through_a_global(rt: HostRuntime) -> Result<(), Out
     assert_is(&rt, get_global(&shared, &mut one, 1, 3), 1);
     assert_is(&rt, one.held(1), Some(0));
     let image = close_both(shared, first, one);
-    assert_is(&rt, image.words[3], 1);
-    assert_is(&rt, image.words[19], 1);
-    assert_is(&rt, image.vars[0], 1);
-    assert_is(&rt, image.vars[1], 1);
+    assert_is(
+        &rt,
+        (
+            image.words[3],
+            image.words[19],
+            image.vars[0],
+            image.vars[1],
+        ),
+        (1, 1, 1, 1),
+    );
     Ok(())
 }
 
@@ -46,12 +52,13 @@ fn a_reference_is_linked_and_got_and_a_variable_dropped(
     link_reference(&shared, &mut one, 0, 0, Some(0), 1);
     assert_is(&rt, get_reference(&shared, &mut one, 1, 0, 0), 1);
     drop_step(&shared, &mut one, 0);
-    assert_is(&rt, one.held(0), None);
-    assert_is(&rt, one.held(1), Some(0));
+    assert_is(&rt, (one.held(0), one.held(1)), (None, Some(0)));
     let image = close_both(shared, first, one);
-    assert_is(&rt, image.words[33], 1);
-    assert_is(&rt, image.vars[0], 0);
-    assert_is(&rt, image.vars[1], 1);
+    assert_is(
+        &rt,
+        (image.words[33], image.vars[0], image.vars[1]),
+        (1, 0, 1),
+    );
     Ok(())
 }
 
@@ -70,8 +77,10 @@ fn of_two_sessions_one_makes_the_object(rt: HostRuntime) -> Result<(), OutOfMemo
     assert_is(&rt, two.held(5), Some(1));
     assert_is(&rt, load_count_for_new(&shared, &mut one, 0), 2);
     let image = close_three(shared, first, one, two);
-    assert_is(&rt, image.words[3], 2);
-    assert_is(&rt, image.vars[0], 1);
-    assert_is(&rt, image.vars[16 + 5], 2);
+    assert_is(
+        &rt,
+        (image.words[3], image.vars[0], image.vars[16 + 5]),
+        (2, 1, 2),
+    );
     Ok(())
 }

@@ -34,8 +34,7 @@ fn commit_twice(rt: &impl Abort, shared: &Shared, first: &mut Session, second: &
     let won = commit_linked(shared, second);
     link_two(shared, first, 6);
     let lost = commit_linked(shared, first);
-    assert_is(rt, won, 4);
-    assert_is(rt, lost, 0x4_0000_0004);
+    assert_is(rt, (won, lost), (4, 0x4_0000_0004));
 }
 
 fn link_and_commit<L: Ledger>(

@@ -16,9 +16,19 @@ fn a_phase_without_a_step_leaves_the_image_as_it_was(rt: HostRuntime) -> Result<
     let before = Image::fresh(rt.alloc(), SHAPE)?;
     let (shared, session) = open_fresh(rt.alloc(), SHAPE)?;
     let after = close_whole(shared, session);
-    assert_is(&rt, after.words.as_slice(), before.words.as_slice());
-    assert_is(&rt, after.vars.as_slice(), before.vars.as_slice());
-    assert_is(&rt, after.pending.as_slice(), before.pending.as_slice());
+    assert_is(
+        &rt,
+        (
+            after.words.as_slice(),
+            after.vars.as_slice(),
+            after.pending.as_slice(),
+        ),
+        (
+            before.words.as_slice(),
+            before.vars.as_slice(),
+            before.pending.as_slice(),
+        ),
+    );
     Ok(())
 }
 
@@ -28,12 +38,18 @@ fn a_session_knows_its_number_and_holds_nothing_at_first(
 ) -> Result<(), OutOfMemory> {
     let (shared, mut first) = open_fresh(rt.alloc(), SHAPE)?;
     let other = first.split(&shared, 3, &[]);
-    assert_is(&rt, first.number(), 12);
-    assert_is(&rt, other.number(), 3);
-    assert_is(&rt, other.held(5), None);
-    assert_is(&rt, other.ticket(), None);
-    assert_is(&rt, other.in_cycle(), false);
-    assert_is(&rt, other.area(), None);
+    assert_is(
+        &rt,
+        (
+            first.number(),
+            other.number(),
+            other.held(5),
+            other.ticket(),
+            other.in_cycle(),
+            other.area(),
+        ),
+        (12, 3, None, None, false, None),
+    );
     let image = close_both(shared, first, other);
     assert!(rt; image.words.len() > 0);
     assert_is(&rt, image.words[0], 0x3_0000_0001);
@@ -76,11 +92,12 @@ fn two_sessions_count_the_objects_on_two_threads(rt: HostRuntime) -> Result<(), 
     let (shared, mut first) = open_fresh(rt.alloc(), SHAPE)?;
     let other = first.split(&shared, 3, &[]);
     let ((first, here), (other, there)) = both_count(&rt, &shared, first, other);
-    assert_is(&rt, here, 0);
-    assert_is(&rt, there, 0);
-    assert_is(&rt, first.number(), 12);
+    assert_is(&rt, (here, there, first.number()), (0, 0, 12));
     let after = close_both(shared, first, other);
-    assert_is(&rt, after.words.as_slice(), before.words.as_slice());
-    assert_is(&rt, after.vars.as_slice(), before.vars.as_slice());
+    assert_is(
+        &rt,
+        (after.words.as_slice(), after.vars.as_slice()),
+        (before.words.as_slice(), before.vars.as_slice()),
+    );
     Ok(())
 }

@@ -44,11 +44,13 @@ fn two_threads_make_one_object_or_two(rt: HostRuntime) -> Result<(), OutOfMemory
     assert!(rt; here || there);
     assert_is(
         &rt,
-        word_at(&image, 3),
-        Some(u64::from(here) + u64::from(there)),
+        (
+            word_at(&image, 3),
+            image.vars.as_slice()[0] != 0,
+            image.vars.as_slice()[16] != 0,
+        ),
+        (Some(u64::from(here) + u64::from(there)), here, there),
     );
-    assert_is(&rt, image.vars.as_slice()[0] != 0, here);
-    assert_is(&rt, image.vars.as_slice()[16] != 0, there);
     Ok(())
 }
 

@@ -103,17 +103,28 @@ fn give_ticket<L: Ledger>(rt: &impl Abort, alloc: Global, blank: Blank) -> Resul
     let given = one.ticket();
     let hidden = look_at_first(&shared, &mut one);
     let after = close_both(shared, first, one);
-    assert_is(rt, none, None);
-    assert_is(rt, empty, 0);
-    assert_is(rt, won, 0);
-    assert_is(rt, given, Some(1));
-    assert_is(rt, hidden, 0x480f_0000_0000_00c0);
-    assert_is(rt, after.pending.as_slice()[0], Some(FIRST));
-    assert_is(rt, change_at(&before, &after, 39), Some((0, 0x1_0000)));
     assert_is(
         rt,
-        change_at(&before, &after, 73),
-        Some(((1 << 56) + 2, 0x480f_0000_0000_00c0)),
+        (
+            none,
+            empty,
+            won,
+            given,
+            hidden,
+            after.pending.as_slice()[0],
+            change_at(&before, &after, 39),
+            change_at(&before, &after, 73),
+        ),
+        (
+            None,
+            0,
+            0,
+            Some(1),
+            0x480f_0000_0000_00c0,
+            Some(FIRST),
+            Some((0, 0x1_0000)),
+            Some(((1 << 56) + 2, 0x480f_0000_0000_00c0)),
+        ),
     );
     Ok(())
 }
@@ -139,20 +150,26 @@ fn publish_and_miss<L: Ledger>(
     let none = one.ticket();
     let bound = trusted_word(rt, &shared, &mut one, 0);
     let after = close_both(shared, first, one);
-    assert_is(rt, won, 0);
-    assert_is(rt, shown, 0x400f_0000_0000_00c0);
-    assert_is(rt, taken, 0x1_0000);
-    assert_is(rt, none, None);
-    assert_is(rt, bound, 0x1_0000);
     assert_is(
         rt,
-        change_at(&before, &after, 73),
-        Some(((1 << 56) + 2, 0x400f_0000_0000_00c0)),
-    );
-    assert_is(
-        rt,
-        change_at(&before, &after, 74),
-        Some(((1 << 56) + 3, 0x480f_0000_0000_00d0)),
+        (
+            won,
+            shown,
+            taken,
+            none,
+            bound,
+            change_at(&before, &after, 73),
+            change_at(&before, &after, 74),
+        ),
+        (
+            0,
+            0x400f_0000_0000_00c0,
+            0x1_0000,
+            None,
+            0x1_0000,
+            Some(((1 << 56) + 2, 0x400f_0000_0000_00c0)),
+            Some(((1 << 56) + 3, 0x480f_0000_0000_00d0)),
+        ),
     );
     Ok(())
 }
@@ -191,13 +208,27 @@ fn share_twice<L: Ledger>(rt: &impl Abort, alloc: Global, blank: Blank) -> Resul
     let bound = trusted_word(rt, &shared, &mut one, 1);
     let taken = share_first(rt, &shared, &mut one);
     let after = close_both(shared, first, one);
-    assert_is(rt, won, 0);
-    assert_is(rt, empty, 0);
-    assert_is(rt, shared_now, 0);
-    assert_is(rt, bound, 0x1_0000);
-    assert_is(rt, taken, 0x1_0000);
-    assert_is(rt, change_at(&before, &after, 39), Some((0, 0x1_0000)));
-    assert_is(rt, change_at(&before, &after, 47), Some((0, 0x1_0000)));
+    assert_is(
+        rt,
+        (
+            won,
+            empty,
+            shared_now,
+            bound,
+            taken,
+            change_at(&before, &after, 39),
+            change_at(&before, &after, 47),
+        ),
+        (
+            0,
+            0,
+            0,
+            0x1_0000,
+            0x1_0000,
+            Some((0, 0x1_0000)),
+            Some((0, 0x1_0000)),
+        ),
+    );
     Ok(())
 }
 

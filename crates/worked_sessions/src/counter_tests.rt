@@ -1,7 +1,8 @@
 // A counter that is made and ticked.
 ghost use Rattle.std.specs.Prelude.{◌≡◌, ◌+◌};
 
-use super::Steps;
+use crate::asserts::assert_is;
+use freelist_rule::Steps;
 use std::marker::Brand;
 use std::mem::size_of_val;
 use std::sync::ledger::{Blank, Ledger};
@@ -25,5 +26,5 @@ fn bytes_of_two_steps<L: Ledger>(blank: Blank) -> usize
 
 #[test]
 fn a_counter_takes_no_bytes(rt: HostRuntime) {
-    assert_eq!(rt; bytes_of_two_steps::<Brand>(Blank::new(1)), 0);
+    assert_is(&rt, bytes_of_two_steps::<Brand>(Blank::new(1)), 0);
 }

@@ -3,9 +3,9 @@
 ghost use Rattle.std.specs.Prelude.{◌≡◌, ◌<◌, ◌↔◌, true, IsTrue, length, map, slice_get, slice_index, All};
 ghost use Rattle.entry_word.specs.Entry.{IsValid, IsTagged, IsNoEntry, entry_word};
 
-use super::{Entry, Image, Shape, decode, encode, index_of, word_of, words_are_unique};
+use crate::asserts::assert_is;
+use entry_word::{Entry, Image, Shape, decode, encode, index_of, word_of, words_are_unique};
 use plain_table::OutOfMemory;
-use std::process::Abort;
 
 // `decode` of `encode` gives the entry back.
 fn round_trip(e: &Entry) -> Option<Entry>
@@ -90,9 +90,8 @@ fn each_word_has_its_entry(rt: HostRuntime) {
         ),
     ];
     for (word, entry) in table {
-        assert_eq!(rt; decode(word), Some(entry), "the entry of {word:x}");
-        assert_eq!(rt; encode(&entry), word, "the word of {entry:?}");
-        assert!(rt; is_same(&entry, &entry), "{entry:?} has one word");
+        let found = (decode(word), encode(&entry), is_same(&entry, &entry));
+        assert_is(&rt, found, (Some(entry), word, true));
     }
 }
 
@@ -107,19 +106,14 @@ fn other_words_are_no_entries(rt: HostRuntime) {
         0x1001_0000_0000_00c0,
     ];
     for word in table {
-        assert_eq!(rt; decode(word), None, "the entry of {word:x}");
+        assert_is(&rt, (word, decode(word)), (word, None));
     }
 }
 
 #[test]
 fn index_words_hold_the_index_above(rt: HostRuntime) {
-    assert_eq!(rt; index_of(0x0001_abcd), 1);
-    assert_eq!(rt; word_of(2), 0x0002_0000);
-}
-
-// Asserts that a word of an image is the one that is wanted.
-fn assert_word(rt: &impl Abort, image: &Image, place: usize, word: u64) {
-    assert_eq!(rt; image.words.get(place), Some(&word), "the word at {place}");
+    let found = (index_of(0x0001_abcd), word_of(2));
+    assert_is(&rt, found, (1, 0x0002_0000));
 }
 
 #[test]
@@ -131,22 +125,25 @@ fn a_fresh_image_has_one_free_segment_in_each_space(rt: HostRuntime) -> Result<(
         objects: 4,
     };
     let image = Image::fresh(rt.alloc(), shape)?;
-    assert_eq!(rt; image.words.len(), 76);
-    // the freelists, and no object
-    assert_word(&rt, &image, 0, 0x0000_0003_0000_0001);
-    assert_word(&rt, &image, 2, 0x0000_0003_0000_0001);
-    assert_word(&rt, &image, 3, 0);
-    // external entry 0, the first free one, the last one of the first segment, and the second segment
-    assert_word(&rt, &image, 64, 0);
-    assert_word(&rt, &image, 65, 0x0100_0000_0000_0002);
-    assert_word(&rt, &image, 67, 0x0100_0000_0000_0004);
-    assert_word(&rt, &image, 68, 0x0200_0000_0000_0000);
-    // trusted entry 0, and the last one
-    assert_word(&rt, &image, 72, 0);
-    assert_word(&rt, &image, 75, 0x0100_0000_0000_0004);
-    assert_eq!(rt; image.vars.len(), 128);
-    assert_eq!(rt; image.vars.get(127), Some(&0));
-    assert_eq!(rt; image.pending.len(), 8);
-    assert_eq!(rt; image.pending.get(7), Some(&None));
+    let lengths = (image.words.len(), image.vars.len(), image.pending.len());
+    assert_is(&rt, lengths, (76, 128, 8));
+    for (place, word) in [
+        // the freelists, and no object
+        (0, 0x0000_0003_0000_0001),
+        (2, 0x0000_0003_0000_0001),
+        (3, 0),
+        // external entry 0, the first free one, the last one of the first segment, and the second segment
+        (64, 0),
+        (65, 0x0100_0000_0000_0002),
+        (67, 0x0100_0000_0000_0004),
+        (68, 0x0200_0000_0000_0000),
+        // trusted entry 0, and the last one
+        (72, 0),
+        (75, 0x0100_0000_0000_0004),
+    ] {
+        assert_is(&rt, (place, image.words.get(place)), (place, Some(&word)));
+    }
+    let ends = (image.vars.get(127), image.pending.get(7));
+    assert_is(&rt, ends, (Some(&0), Some(&None)));
     Ok(())
 }

@@ -1,5 +1,6 @@
 // Freelist words and used indexes that were worked out by hand.
-use super::{head, len, next_free, pack};
+use crate::asserts::assert_is;
+use free_chain::{head, len, next_free, pack};
 
 #[test]
 fn a_word_has_its_head_below_its_length(rt: HostRuntime) {
@@ -9,18 +10,16 @@ fn a_word_has_its_head_below_its_length(rt: HostRuntime) {
         (0xffff_ffff, 0xffff_ffff, 0xffff_ffff_ffff_ffff),
     ];
     for (first, count, word) in table {
-        assert_eq!(rt; pack(first, count), word);
-        assert_eq!(rt; head(word), first);
-        assert_eq!(rt; len(word), count);
+        let found = (pack(first, count), head(word), len(word));
+        assert_is(&rt, found, (word, first, count));
     }
 }
 
 #[test]
 fn the_next_free_index_is_the_least(rt: HostRuntime) {
     let used = [true, false, true, true, false, true];
-    assert_eq!(rt; next_free(&used, 0), 1);
-    assert_eq!(rt; next_free(&used, 1), 1);
-    assert_eq!(rt; next_free(&used, 2), 4);
-    assert_eq!(rt; next_free(&used, 5), 6, "the end");
-    assert_eq!(rt; next_free(&used, 6), 6, "from the end on");
+    // the end is no index of the list, and follows the last one and itself
+    for (from, next) in [(0, 1), (1, 1), (2, 4), (5, 6), (6, 6)] {
+        assert_is(&rt, (from, next_free(&used, from)), (from, next));
+    }
 }

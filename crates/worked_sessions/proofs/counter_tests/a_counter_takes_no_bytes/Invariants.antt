@@ -1,4 +1,4 @@
-use Rattle.freelist_rule.proofs.tests.a_counter_takes_no_bytes.Given as goal
+use Rattle.worked_sessions.proofs.counter_tests.a_counter_takes_no_bytes.Given as goal
 
 abbrev pub ghosts-bytes_of_two_steps : goal.ghosts-bytes_of_two_steps
 ghosts-bytes_of_two_steps g a = record { name = a.blank.name; parts = a.blank.parts }
