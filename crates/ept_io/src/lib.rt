@@ -9,6 +9,8 @@
 #![tactic(auto)]
 
 mod adapters;
+#[cfg(test)]
+mod asserts;
 mod faults;
 mod memory;
 #[cfg(test)]

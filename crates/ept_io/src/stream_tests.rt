@@ -2,6 +2,7 @@
 // at each call in turn. Both tell their bytes, so the contracts of the calls over them are exact.
 ghost use Rattle.std.specs.Prelude.{◌≡◌, ◌≤◌, ◌++◌, Some, IfOk, OnOk};
 
+use crate::asserts::assert_is;
 use crate::{Failed, ReadErr, ReadSource, WriteSink, read_script, write_all};
 use std::alloc::Global;
 use std::io;
@@ -121,14 +122,12 @@ fn short_reads_and_writes_lose_no_byte(rt: HostRuntime) -> Result<(), Fail> {
         let calls = Calls::new(0, ErrorKind::TimedOut);
         let mut reader = PieceReader::new(SCRIPT, piece, calls);
         let script = read_all(rt.alloc(), &mut reader)?;
-        assert!(rt; script.as_slice() == SCRIPT.as_slice(), "pieces of {piece}");
-
         let writer = PieceWriter::new(rt.alloc(), piece, calls);
         let (writer, answer) = append_all(writer, SCRIPT);
-        assert_eq!(rt; answer, Ok(()), "pieces of {piece}");
-        assert!(rt;
-            writer.bytes.as_slice() == SCRIPT.as_slice(),
-            "pieces of {piece}"
+        assert_is(
+            &rt,
+            (piece, script.as_slice(), answer, writer.bytes.as_slice()),
+            (piece, SCRIPT.as_slice(), Ok(()), SCRIPT.as_slice()),
         );
     }
     Ok(())
@@ -141,11 +140,13 @@ fn a_fault_at_each_byte_ends_the_reading_there(rt: HostRuntime) -> Result<(), Fa
         let calls = Calls::new(n, ErrorKind::TimedOut);
         let mut source = ReadSource::new(PieceReader::new(SCRIPT, 1, calls));
         let first = read_script(rt.alloc(), &mut source, SCRIPT.len());
-        assert_eq!(rt; first.err(), Some(ReadErr::ReadFault), "at read {n}");
-
         // No byte was taken by the read that failed, and none after it.
         let rest = read_script(rt.alloc(), &mut source, SCRIPT.len())?;
-        assert!(rt; Some(rest.as_slice()) == SCRIPT.get(n - 1..), "at read {n}");
+        assert_is(
+            &rt,
+            (n, first.err(), Some(rest.as_slice())),
+            (n, Some(ReadErr::ReadFault), SCRIPT.get(n - 1..)),
+        );
     }
     Ok(())
 }
@@ -156,12 +157,11 @@ fn a_fault_at_each_byte_ends_the_writing_there(rt: HostRuntime) -> Result<(), Fa
         let calls = Calls::new(n, ErrorKind::TimedOut);
         let writer = PieceWriter::new(rt.alloc(), 1, calls);
         let (writer, answer) = append_all(writer, SCRIPT);
-        assert_eq!(rt; answer, Err(Failed), "at write {n}");
-        assert!(rt;
-            Some(writer.bytes.as_slice()) == SCRIPT.get(..n - 1),
-            "at write {n}"
+        assert_is(
+            &rt,
+            (writer.calls.made, answer, Some(writer.bytes.as_slice())),
+            (n, Err(Failed), SCRIPT.get(..n - 1)),
         );
-        assert_eq!(rt; writer.calls.made, n, "at write {n}");
     }
     Ok(())
 }
@@ -172,14 +172,12 @@ fn an_interrupted_call_is_made_again(rt: HostRuntime) -> Result<(), Fail> {
         let calls = Calls::new(n, ErrorKind::Interrupted);
         let mut reader = PieceReader::new(SCRIPT, 1, calls);
         let script = read_all(rt.alloc(), &mut reader)?;
-        assert!(rt; script.as_slice() == SCRIPT.as_slice(), "at read {n}");
-
         let writer = PieceWriter::new(rt.alloc(), 1, calls);
         let (writer, answer) = append_all(writer, SCRIPT);
-        assert_eq!(rt; answer, Ok(()), "at write {n}");
-        assert!(rt;
-            writer.bytes.as_slice() == SCRIPT.as_slice(),
-            "at write {n}"
+        assert_is(
+            &rt,
+            (n, script.as_slice(), answer, writer.bytes.as_slice()),
+            (n, SCRIPT.as_slice(), Ok(()), SCRIPT.as_slice()),
         );
     }
     Ok(())
@@ -197,7 +195,7 @@ fn no_read_follows_the_end_a_fault_or_the_limit(rt: HostRuntime) -> Result<(), F
             let calls = Calls::new(err_at, ErrorKind::TimedOut);
             let mut reader = PieceReader::new(SCRIPT, 1, calls);
             let _ = read_script(rt.alloc(), &mut ReadSource::new(&mut reader), limit);
-            assert_eq!(rt; reader.calls.made, want, "at {n}");
+            assert_is(&rt, (n, reader.calls.made), (n, want));
         }
     }
     Ok(())
@@ -210,8 +208,11 @@ fn a_full_writer_is_a_fault(rt: HostRuntime) -> Result<(), Fail> {
         let mut memory = [0u8; 28];
         let mut left = &mut memory[..room];
         let answer = write_all(&mut WriteSink::new(&mut left), SCRIPT);
-        assert_eq!(rt; answer, Err(Failed), "room {room}");
-        assert!(rt; Some(&memory[..room]) == SCRIPT.get(..room), "room {room}");
+        assert_is(
+            &rt,
+            (room, answer, Some(&memory[..room])),
+            (room, Err(Failed), SCRIPT.get(..room)),
+        );
     }
     Ok(())
 }

@@ -1,3 +1,4 @@
+use crate::asserts::assert_is;
 use crate::faults::FaultCount;
 use crate::{
     Failed, MemorySink, MemorySource, ReadErr, ReadSource, Sink, Source, WriteSink, read_script,
@@ -29,8 +30,8 @@ fn a_memory_source_gives_pieces_and_fails_where_planned(rt: HostRuntime) -> Resu
         (Ok(1), b"gef-"),
         (Ok(0), b"gef-"),
     ] {
-        assert_eq!(rt; source.read(&mut buf), want);
-        assert_eq!(rt; &buf, holds);
+        let found = source.read(&mut buf);
+        assert_is(&rt, (found, buf), (want, *holds));
     }
     Ok(())
 }
@@ -45,8 +46,8 @@ fn a_memory_sink_takes_pieces_up_to_its_room(rt: HostRuntime) -> Result<(), Fail
         (Ok(2), b"abcab".as_slice()),
         (Err(Failed), b"abcab".as_slice()),
     ] {
-        assert_eq!(rt; sink.write(TEXT), want);
-        assert_eq!(rt; sink.bytes(), holds);
+        let found = sink.write(TEXT);
+        assert_is(&rt, (found, sink.bytes()), (want, holds));
     }
     Ok(())
 }
@@ -54,20 +55,22 @@ fn a_memory_sink_takes_pieces_up_to_its_room(rt: HostRuntime) -> Result<(), Fail
 #[test]
 fn a_script_is_read_up_to_the_limit(rt: HostRuntime) -> Result<(), Fail> {
     for (limit, fail_at, want) in [
-        (7, [9].as_slice(), None),
-        (6, [9].as_slice(), Some(ReadErr::TooLong)),
-        (7, [4].as_slice(), Some(ReadErr::ReadFault)),
-        (2, [2].as_slice(), Some(ReadErr::TooLong)),
-        (2, [1].as_slice(), Some(ReadErr::ReadFault)),
+        (7, 9, None),
+        (6, 9, Some(ReadErr::TooLong)),
+        (7, 4, Some(ReadErr::ReadFault)),
+        (2, 2, Some(ReadErr::TooLong)),
+        (2, 1, Some(ReadErr::ReadFault)),
     ] {
-        let mut source = source(rt.alloc(), fail_at)?;
-        match read_script(rt.alloc(), &mut source, limit) {
-            Ok(script) => assert!(rt;
-                script.as_slice() == TEXT.as_slice() && want.is_none(),
-                "at {limit}"
-            ),
-            Err(refusal) => assert_eq!(rt; Some(refusal), want, "at {limit}"),
-        }
+        let mut source = source(rt.alloc(), &[fail_at])?;
+        let read = read_script(rt.alloc(), &mut source, limit);
+        let is_text = read
+            .as_ref()
+            .is_ok_and(|script| script.as_slice() == TEXT.as_slice());
+        assert_is(
+            &rt,
+            (limit, read.err(), is_text),
+            (limit, want, want.is_none()),
+        );
     }
     Ok(())
 }
@@ -75,15 +78,15 @@ fn a_script_is_read_up_to_the_limit(rt: HostRuntime) -> Result<(), Fail> {
 #[test]
 fn a_text_is_written_as_far_as_there_is_room(rt: HostRuntime) -> Result<(), Fail> {
     for (room, fail_at, want, holds) in [
-        (7, [9].as_slice(), Ok(()), b"abcdefg".as_slice()),
-        (5, [9].as_slice(), Err(Failed), b"abcde".as_slice()),
-        (7, [2].as_slice(), Err(Failed), b"abc".as_slice()),
-        (0, [9].as_slice(), Err(Failed), b"".as_slice()),
+        (7, 9, Ok(()), b"abcdefg".as_slice()),
+        (5, 9, Err(Failed), b"abcde".as_slice()),
+        (7, 2, Err(Failed), b"abc".as_slice()),
+        (0, 9, Err(Failed), b"".as_slice()),
     ] {
-        let fail_at = Vec::from_slice(rt.alloc(), fail_at)?;
+        let fail_at = Vec::from_slice(rt.alloc(), &[fail_at])?;
         let mut sink = MemorySink::new(rt.alloc(), room, 3, fail_at)?;
-        assert_eq!(rt; write_all(&mut sink, TEXT), want, "room {room}");
-        assert_eq!(rt; sink.bytes(), holds, "room {room}");
+        let answer = write_all(&mut sink, TEXT);
+        assert_is(&rt, (room, answer, sink.bytes()), (room, want, holds));
     }
     Ok(())
 }
@@ -127,17 +130,20 @@ fn the_adapters_pass_bytes_on_and_faults_too(rt: HostRuntime) -> Result<(), Fail
         has_failed: false,
         inner: &long,
     });
-    match read_script(rt.alloc(), &mut source, 10_000) {
-        Ok(_) => panic!(rt; "the fault is lost"),
-        Err(refusal) => assert_eq!(rt; refusal, ReadErr::ReadFault),
-    }
+    let first = read_script(rt.alloc(), &mut source, 10_000);
+    assert_is(&rt, first.err(), Some(ReadErr::ReadFault));
     let script = read_script(rt.alloc(), &mut source, 10_000)?;
-    assert!(rt; script.as_slice() == long.as_slice());
+    assert_is(&rt, script.as_slice() == long.as_slice(), true);
 
     let mut out = Vec::new(rt.alloc());
-    assert_eq!(rt; write_all(&mut WriteSink::new(&mut out), &long), Ok(()));
-    assert!(rt; out.as_slice() == long.as_slice());
-    assert_eq!(rt; write_all(&mut WriteSink::new(Full), TEXT), Err(Failed));
+    let answer = write_all(&mut WriteSink::new(&mut out), &long);
+    assert_is(
+        &rt,
+        (answer, out.as_slice() == long.as_slice()),
+        (Ok(()), true),
+    );
+    let answer = write_all(&mut WriteSink::new(Full), TEXT);
+    assert_is(&rt, answer, Err(Failed));
     Ok(())
 }
 
@@ -145,11 +151,8 @@ fn the_adapters_pass_bytes_on_and_faults_too(rt: HostRuntime) -> Result<(), Fail
 #[test]
 fn the_adapters_fit_the_standard_streams(rt: HostRuntime) -> Result<(), Fail> {
     let script = read_script(rt.alloc(), &mut ReadSource::new(rt.reader()), 10)?;
-    assert_eq!(rt; script.len(), 0);
-    assert_eq!(rt;
-        write_all(&mut WriteSink::new(io::writer(&rt)), TEXT),
-        Ok(())
-    );
+    let answer = write_all(&mut WriteSink::new(io::writer(&rt)), TEXT);
+    assert_is(&rt, (script.len(), answer), (0, Ok(())));
     Ok(())
 }
 
@@ -163,8 +166,8 @@ fn a_count_of_faults_rises_to_its_last_value_and_stays(rt: HostRuntime) -> Resul
         (u64::MAX, u64::MAX),
     ] {
         let mut faults = FaultCount { count };
-        assert_eq!(rt; faults.rise(), Failed);
-        assert_eq!(rt; faults.count, next);
+        let answer = faults.rise();
+        assert_is(&rt, (answer, faults.count), (Failed, next));
     }
     Ok(())
 }

@@ -17,18 +17,26 @@ fn access_null(rt: &impl Abort, shared: &Shared, s: &mut Session)
     ensures caller { IsOf shared.now s.new }
     ensures same { SameCaller (view s.old) (view s.new) }
 {
-    let named = name(shared, s, 0, 0);
-    assert_is(rt, named, Reply::Word(0));
-    let loaded = load(shared, s, 0, 0, only(rt, 0x0f));
-    assert_is(rt, loaded, Reply::Null);
-    let stored = store(shared, s, 0, 0, only(rt, 0x0f), 0xc1);
-    assert_is(rt, stored, Reply::Null);
-    let swapped = swap(shared, s, 0, 0, only(rt, 0x0f), 0xc1);
-    assert_is(rt, swapped, Reply::Null);
-    let raw = raw_load(shared, s, 0xffff, only(rt, 0x0f));
-    assert_is(rt, raw, Reply::Null);
-    let raw = raw_store(shared, s, 0, only(rt, 0x0f), 0xc1);
-    assert_is(rt, raw, Reply::Null);
+    let answers = [
+        name(shared, s, 0, 0),
+        load(shared, s, 0, 0, only(rt, 0x0f)),
+        store(shared, s, 0, 0, only(rt, 0x0f), 0xc1),
+        swap(shared, s, 0, 0, only(rt, 0x0f), 0xc1),
+        raw_load(shared, s, 0xffff, only(rt, 0x0f)),
+        raw_store(shared, s, 0, only(rt, 0x0f), 0xc1),
+    ];
+    assert_is(
+        rt,
+        answers,
+        [
+            Reply::Word(0),
+            Reply::Null,
+            Reply::Null,
+            Reply::Null,
+            Reply::Null,
+            Reply::Null,
+        ],
+    );
 }
 
 /// Calls by field 0, whose cell has another tag than the one that they ask.
@@ -37,18 +45,26 @@ fn access_under_another_tag(rt: &impl Abort, shared: &Shared, s: &mut Session)
     ensures caller { IsOf shared.now s.new }
     ensures same { SameCaller (view s.old) (view s.new) }
 {
-    let loaded = load(shared, s, 0, 0, only(rt, 0x17));
-    assert_is(rt, loaded, Reply::Fault);
-    let stored = store(shared, s, 0, 0, only(rt, 0x17), 0xc1);
-    assert_is(rt, stored, Reply::Fault);
-    let swapped = swap(shared, s, 0, 0, only(rt, 0x17), 0xc1);
-    assert_is(rt, swapped, Reply::Fault);
-    let raw = raw_load(shared, s, 0x0001_0000, only(rt, 0x17));
-    assert_is(rt, raw, Reply::Fault);
-    let raw = raw_store(shared, s, 0x0001_0000, only(rt, 0x17), 0xc1);
-    assert_is(rt, raw, Reply::Fault);
-    let taken = init(shared, s, 0, 0, tag(rt, 0x17), 0xc1);
-    assert_is(rt, taken, Reply::Taken(0x0001_0000));
+    let answers = [
+        load(shared, s, 0, 0, only(rt, 0x17)),
+        store(shared, s, 0, 0, only(rt, 0x17), 0xc1),
+        swap(shared, s, 0, 0, only(rt, 0x17), 0xc1),
+        raw_load(shared, s, 0x0001_0000, only(rt, 0x17)),
+        raw_store(shared, s, 0x0001_0000, only(rt, 0x17), 0xc1),
+        init(shared, s, 0, 0, tag(rt, 0x17), 0xc1),
+    ];
+    assert_is(
+        rt,
+        answers,
+        [
+            Reply::Fault,
+            Reply::Fault,
+            Reply::Fault,
+            Reply::Fault,
+            Reply::Fault,
+            Reply::Taken(0x0001_0000),
+        ],
+    );
 }
 
 /// Calls by field 0 under the tag of its cell: each finds what the one before it left.
@@ -57,16 +73,24 @@ fn access_under_the_tag(rt: &impl Abort, shared: &Shared, s: &mut Session)
     ensures caller { IsOf shared.now s.new }
     ensures same { SameCaller (view s.old) (view s.new) }
 {
-    let stored = store(shared, s, 0, 0, only(rt, 0x0f), 0xc1);
-    assert_is(rt, stored, Reply::Ok);
-    let swapped = swap(shared, s, 0, 0, only(rt, 0x0f), 0xc2);
-    assert_is(rt, swapped, Reply::Value(0xc1));
-    let loaded = load(shared, s, 0, 0, only(rt, 0x0f));
-    assert_is(rt, loaded, Reply::Value(0xc2));
-    let raw = raw_store(shared, s, 0x0001_0000, only(rt, 0x0f), 0xffff_ffff_ffff);
-    assert_is(rt, raw, Reply::Ok);
-    let raw = raw_load(shared, s, 0x0001_ffff, only(rt, 0x0f));
-    assert_is(rt, raw, Reply::Value(0xffff_ffff_ffff));
+    let answers = [
+        store(shared, s, 0, 0, only(rt, 0x0f), 0xc1),
+        swap(shared, s, 0, 0, only(rt, 0x0f), 0xc2),
+        load(shared, s, 0, 0, only(rt, 0x0f)),
+        raw_store(shared, s, 0x0001_0000, only(rt, 0x0f), 0xffff_ffff_ffff),
+        raw_load(shared, s, 0x0001_ffff, only(rt, 0x0f)),
+    ];
+    assert_is(
+        rt,
+        answers,
+        [
+            Reply::Ok,
+            Reply::Value(0xc1),
+            Reply::Value(0xc2),
+            Reply::Ok,
+            Reply::Value(0xffff_ffff_ffff),
+        ],
+    );
 }
 
 /// Forges words into field 0: a stranger's cell is met under its own tag alone, and a word past the limit meets none.
@@ -75,16 +99,24 @@ fn access_forged(rt: &impl Abort, shared: &Shared, s: &mut Session)
     ensures caller { IsOf shared.now s.new }
     ensures same { SameCaller (view s.old) (view s.new) }
 {
-    let forged = forge(shared, s, 0, 0, 0x0002_0000);
-    assert_is(rt, forged, Reply::Ok);
-    let loaded = load(shared, s, 0, 0, only(rt, 0x17));
-    assert_is(rt, loaded, Reply::Value(0xc1));
-    let forged = forge(shared, s, 0, 0, 0xffff_ffff);
-    assert_is(rt, forged, Reply::Ok);
-    let named = name(shared, s, 0, 0);
-    assert_is(rt, named, Reply::Word(0xffff_ffff));
-    let loaded = load(shared, s, 0, 0, only(rt, 0x0f));
-    assert_is(rt, loaded, Reply::Fault);
+    let answers = [
+        forge(shared, s, 0, 0, 0x0002_0000),
+        load(shared, s, 0, 0, only(rt, 0x17)),
+        forge(shared, s, 0, 0, 0xffff_ffff),
+        name(shared, s, 0, 0),
+        load(shared, s, 0, 0, only(rt, 0x0f)),
+    ];
+    assert_is(
+        rt,
+        answers,
+        [
+            Reply::Ok,
+            Reply::Value(0xc1),
+            Reply::Ok,
+            Reply::Word(0xffff_ffff),
+            Reply::Fault,
+        ],
+    );
 }
 
 #[test]

@@ -19,18 +19,26 @@ fn access_nothing(rt: &impl Abort, shared: &Shared, s: &mut Session)
     ensures caller { IsOf shared.now s.new }
     ensures same { SameCaller (view s.old) (view s.new) }
 {
-    let named = name(shared, s, 1, 0);
-    assert_is(rt, named, Reply::Empty);
-    let forged = forge(shared, s, 1, 1, 0xffff_ffff);
-    assert_is(rt, forged, Reply::Empty);
-    let loaded = load(shared, s, 1, 0, only(rt, 0x0f));
-    assert_is(rt, loaded, Reply::Empty);
-    let stored = store(shared, s, 1, 1, only(rt, 0x0f), 0xc1);
-    assert_is(rt, stored, Reply::Empty);
-    let swapped = swap(shared, s, 1, 0, only(rt, 0x0f), 0xc1);
-    assert_is(rt, swapped, Reply::Empty);
-    let inited = init(shared, s, 1, 1, tag(rt, 0x0f), 0xc1);
-    assert_is(rt, inited, Reply::Empty);
+    let answers = [
+        name(shared, s, 1, 0),
+        forge(shared, s, 1, 1, 0xffff_ffff),
+        load(shared, s, 1, 0, only(rt, 0x0f)),
+        store(shared, s, 1, 1, only(rt, 0x0f), 0xc1),
+        swap(shared, s, 1, 0, only(rt, 0x0f), 0xc1),
+        init(shared, s, 1, 1, tag(rt, 0x0f), 0xc1),
+    ];
+    assert_is(
+        rt,
+        answers,
+        [
+            Reply::Empty,
+            Reply::Empty,
+            Reply::Empty,
+            Reply::Empty,
+            Reply::Empty,
+            Reply::Empty,
+        ],
+    );
 }
 
 /// Calls by references of what variable 1 holds, which is nothing, and links to it.
@@ -57,16 +65,24 @@ fn share_nothing(rt: &impl Abort, shared: &Shared, s: &mut Session)
     ensures caller { IsOf shared.now s.new }
     ensures same { SameCaller (view s.old) (view s.new) }
 {
-    let filled = tnew(shared, s, 1, tag(rt, 0x0f), 0xc1);
-    assert_is(rt, filled, Reply::Empty);
-    let published = publish(shared, s, 1);
-    assert_is(rt, published, Reply::Empty);
-    let loaded = tload(shared, s, 1, only(rt, 0x0f));
-    assert_is(rt, loaded, Reply::Empty);
-    let from = share(shared, s, 1, 0);
-    assert_is(rt, from, Reply::Empty);
-    let to = share(shared, s, 0, 1);
-    assert_is(rt, to, Reply::Empty);
+    let answers = [
+        tnew(shared, s, 1, tag(rt, 0x0f), 0xc1),
+        publish(shared, s, 1),
+        tload(shared, s, 1, only(rt, 0x0f)),
+        share(shared, s, 1, 0),
+        share(shared, s, 0, 1),
+    ];
+    assert_is(
+        rt,
+        answers,
+        [
+            Reply::Empty,
+            Reply::Empty,
+            Reply::Empty,
+            Reply::Empty,
+            Reply::Empty,
+        ],
+    );
 }
 
 #[test]

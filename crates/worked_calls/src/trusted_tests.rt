@@ -33,18 +33,26 @@ fn fill_and_publish(rt: &impl Abort, shared: &Shared, s: &mut Session)
     ensures caller { IsOf shared.now s.new }
     ensures same { SameCaller (view s.old) (view s.new) }
 {
-    let filled = tnew(shared, s, 0, tag(rt, 0x0f), 0xc0);
-    assert_is(rt, filled, Reply::Ok);
-    let hidden = tload(shared, s, 0, only(rt, 0x0f));
-    assert_is(rt, hidden, Reply::Fault);
-    let pending = tnew(shared, s, 1, tag(rt, 0x0f), 0xc1);
-    assert_is(rt, pending, Reply::Pending);
-    let others = publish(shared, s, 1);
-    assert_is(rt, others, Reply::NotYours);
-    let published = publish(shared, s, 0);
-    assert_is(rt, published, Reply::Ok);
-    let again = publish(shared, s, 0);
-    assert_is(rt, again, Reply::NotYours);
+    let answers = [
+        tnew(shared, s, 0, tag(rt, 0x0f), 0xc0),
+        tload(shared, s, 0, only(rt, 0x0f)),
+        tnew(shared, s, 1, tag(rt, 0x0f), 0xc1),
+        publish(shared, s, 1),
+        publish(shared, s, 0),
+        publish(shared, s, 0),
+    ];
+    assert_is(
+        rt,
+        answers,
+        [
+            Reply::Ok,
+            Reply::Fault,
+            Reply::Pending,
+            Reply::NotYours,
+            Reply::Ok,
+            Reply::NotYours,
+        ],
+    );
 }
 
 /// Loads the published cell, fills another one for the field that names it already, and shares it with object 1 once.
@@ -53,16 +61,24 @@ fn share_published(rt: &impl Abort, shared: &Shared, s: &mut Session)
     ensures caller { IsOf shared.now s.new }
     ensures same { SameCaller (view s.old) (view s.new) }
 {
-    let loaded = tload(shared, s, 0, only(rt, 0x0f));
-    assert_is(rt, loaded, Reply::Value(0xc0));
-    let taken = tnew(shared, s, 0, tag(rt, 0x17), 0xc1);
-    assert_is(rt, taken, Reply::Taken(0x0001_0000));
-    let won = share(shared, s, 0, 1);
-    assert_is(rt, won, Reply::Ok);
-    let lost = share(shared, s, 0, 1);
-    assert_is(rt, lost, Reply::Taken(0x0001_0000));
-    let loaded = tload(shared, s, 1, only(rt, 0x0f));
-    assert_is(rt, loaded, Reply::Value(0xc0));
+    let answers = [
+        tload(shared, s, 0, only(rt, 0x0f)),
+        tnew(shared, s, 0, tag(rt, 0x17), 0xc1),
+        share(shared, s, 0, 1),
+        share(shared, s, 0, 1),
+        tload(shared, s, 1, only(rt, 0x0f)),
+    ];
+    assert_is(
+        rt,
+        answers,
+        [
+            Reply::Value(0xc0),
+            Reply::Taken(0x0001_0000),
+            Reply::Ok,
+            Reply::Taken(0x0001_0000),
+            Reply::Value(0xc0),
+        ],
+    );
 }
 
 /// Fills the last index of the trusted space, after which it is full, and loads by words of the space.
@@ -71,18 +87,26 @@ fn fill_last(rt: &impl Abort, shared: &Shared, s: &mut Session)
     ensures caller { IsOf shared.now s.new }
     ensures same { SameCaller (view s.old) (view s.new) }
 {
-    let filled = tnew(shared, s, 2, tag(rt, 0x17), 0xc2);
-    assert_is(rt, filled, Reply::Ok);
-    let published = publish(shared, s, 2);
-    assert_is(rt, published, Reply::Ok);
-    let full = tnew(shared, s, 3, tag(rt, 0x17), 0xc3);
-    assert_is(rt, full, Reply::Full);
-    let loaded = traw(shared, s, 0x0003_0000, only(rt, 0x17));
-    assert_is(rt, loaded, Reply::Value(0xc2));
-    let past = traw(shared, s, 0xffff_ffff, only(rt, 0x17));
-    assert_is(rt, past, Reply::Fault);
-    let null = traw(shared, s, 0xffff, only(rt, 0x17));
-    assert_is(rt, null, Reply::Null);
+    let answers = [
+        tnew(shared, s, 2, tag(rt, 0x17), 0xc2),
+        publish(shared, s, 2),
+        tnew(shared, s, 3, tag(rt, 0x17), 0xc3),
+        traw(shared, s, 0x0003_0000, only(rt, 0x17)),
+        traw(shared, s, 0xffff_ffff, only(rt, 0x17)),
+        traw(shared, s, 0xffff, only(rt, 0x17)),
+    ];
+    assert_is(
+        rt,
+        answers,
+        [
+            Reply::Ok,
+            Reply::Ok,
+            Reply::Full,
+            Reply::Value(0xc2),
+            Reply::Fault,
+            Reply::Null,
+        ],
+    );
 }
 
 /// Makes objects 2 and 3 in variables 2 and 3.

@@ -7,6 +7,7 @@ mod refusals;
 use self::histories::LEGAL;
 use self::made::{append, events_of};
 use self::refusals::REFUSALS;
+use crate::asserts::assert_is;
 use plain_program::{State, replay, step};
 use plain_table::{Act, Event, Field, Limits, Reply, Space};
 use std::alloc::Global;
@@ -124,15 +125,26 @@ fn wrong() -> [(usize, Event); 7] {
     ]
 }
 
+// Each of the events is a step, one after the other.
+fn assert_steps(
+    rt: &(impl AllocGlobal + Abort),
+    state: &mut State,
+    events: &[Event],
+) -> Result<(), Fail> {
+    for event in events {
+        let is_made = step(rt.alloc(), state, event)?;
+        assert_is(rt, (*event, is_made), (*event, true));
+    }
+    Ok(())
+}
+
 #[test]
 fn a_legal_history_is_made(rt: HostRuntime) -> Result<(), Fail> {
     let events = history();
-    assert!(rt; replay(rt.alloc(), LIMITS, &events)?);
+    assert_is(&rt, replay(rt.alloc(), LIMITS, &events)?, true);
     let mut state = State::start(rt.alloc(), LIMITS)?;
-    for event in &events {
-        assert!(rt; step(rt.alloc(), &mut state, event)?, "at {event:?}");
-    }
-    assert!(rt; !state.spent());
+    assert_steps(&rt, &mut state, &events)?;
+    assert_is(&rt, state.spent(), false);
     Ok(())
 }
 
@@ -145,24 +157,25 @@ fn a_long_history_is_replayed(rt: HostRuntime) -> Result<(), Fail> {
     for _ in 0..20_000 {
         events.push(look(0x0001_0000, 0x0f, Reply::Value(0xc2)))?;
     }
-    assert!(rt; replay(rt.alloc(), LIMITS, &events)?);
+    let is_legal = replay(rt.alloc(), LIMITS, &events)?;
     events.push(look(0x0001_0000, 0x0f, Reply::Value(0xc1)))?;
-    assert!(rt; !replay(rt.alloc(), LIMITS, &events)?);
+    let is_wrong = !replay(rt.alloc(), LIMITS, &events)?;
+    assert_is(&rt, (is_legal, is_wrong), (true, true));
     Ok(())
 }
 
 #[test]
 fn a_wrong_event_is_refused(rt: HostRuntime) -> Result<(), Fail> {
     for (before, event) in wrong() {
-        let mut events = Vec::new(rt.alloc());
+        let history = history();
+        let made = history.get(..before).expect(&rt, "fewer events");
+        let mut events = Vec::from_slice(rt.alloc(), made)?;
         let mut state = State::start(rt.alloc(), LIMITS)?;
-        for made in history().iter().take(before) {
-            assert!(rt; step(rt.alloc(), &mut state, made)?, "at {made:?}");
-            events.push(*made)?;
-        }
-        assert!(rt; !step(rt.alloc(), &mut state, &event)?, "at {event:?}");
+        assert_steps(&rt, &mut state, events.as_slice())?;
+        let is_made = step(rt.alloc(), &mut state, &event)?;
         events.push(event)?;
-        assert!(rt; !replay(rt.alloc(), LIMITS, &events)?, "at {event:?}");
+        let is_legal = replay(rt.alloc(), LIMITS, &events)?;
+        assert_is(&rt, (event, is_made, is_legal), (event, false, false));
     }
     Ok(())
 }
@@ -201,16 +214,11 @@ fn the_worked_histories_are_legal_with_no_other_reply(rt: HostRuntime) -> Result
         for event in &events {
             let said = other(event.said);
             let wrong = Event { said, ..*event };
-            assert!(rt;
-                !step(rt.alloc(), &mut state, &wrong)?,
-                "{wrong:?} of {events:?}"
-            );
-            assert!(rt;
-                step(rt.alloc(), &mut state, event)?,
-                "{event:?} of {events:?}"
-            );
+            let is_wrong = !step(rt.alloc(), &mut state, &wrong)?;
+            let is_legal = step(rt.alloc(), &mut state, event)?;
+            assert_is(&rt, (*event, is_wrong, is_legal), (*event, true, true));
         }
-        assert!(rt; replay(rt.alloc(), limits, &events)?, "{events:?}");
+        assert_is(&rt, replay(rt.alloc(), limits, &events)?, true);
     }
     Ok(())
 }
@@ -222,16 +230,12 @@ fn a_wrong_last_event_is_refused(rt: HostRuntime) -> Result<(), Fail> {
         for part in refusals.wrong {
             let mut events = events_of(rt.alloc(), refusals.before)?;
             append(&mut events, part)?;
-            assert!(rt; !replay(rt.alloc(), limits, &events)?, "{events:?}");
+            let is_legal = replay(rt.alloc(), limits, &events)?;
             let last = events.pop().expect(&rt, "no event");
             let mut state = State::start(rt.alloc(), limits)?;
-            for event in &events {
-                assert!(rt;
-                    step(rt.alloc(), &mut state, event)?,
-                    "{event:?} before {last:?}"
-                );
-            }
-            assert!(rt; !step(rt.alloc(), &mut state, &last)?, "{last:?}");
+            assert_steps(&rt, &mut state, events.as_slice())?;
+            let is_made = step(rt.alloc(), &mut state, &last)?;
+            assert_is(&rt, (last, is_legal, is_made), (last, false, false));
         }
     }
     Ok(())

@@ -105,16 +105,24 @@ fn load_moved(rt: &impl Abort, shared: &Shared, s: &mut Session)
     ensures caller { IsOf shared.now s.new }
     ensures same { SameCaller (view s.old) (view s.new) }
 {
-    let value = load(shared, s, 3, 0, only(rt, 0x0f));
-    assert_is(rt, value, Reply::Value(0xc7));
-    let moved = name(shared, s, 3, 0);
-    assert_is(rt, moved, Reply::Word(0x0002_0000));
-    let forged = name(shared, s, 0, 1);
-    assert_is(rt, forged, Reply::Word(0x0007_0000));
-    let fault = load(shared, s, 0, 1, only(rt, 0x0f));
-    assert_is(rt, fault, Reply::Fault);
-    let kept = load(shared, s, 0, 0, only(rt, 0x0f));
-    assert_is(rt, kept, Reply::Value(0xc1));
+    let answers = [
+        load(shared, s, 3, 0, only(rt, 0x0f)),
+        name(shared, s, 3, 0),
+        name(shared, s, 0, 1),
+        load(shared, s, 0, 1, only(rt, 0x0f)),
+        load(shared, s, 0, 0, only(rt, 0x0f)),
+    ];
+    assert_is(
+        rt,
+        answers,
+        [
+            Reply::Value(0xc7),
+            Reply::Word(0x0002_0000),
+            Reply::Word(0x0007_0000),
+            Reply::Fault,
+            Reply::Value(0xc1),
+        ],
+    );
 }
 
 #[test]

@@ -37,12 +37,26 @@ fn with_cell(alloc: Global) -> Result<Mutator, OutOfMemory>
 fn a_cell_is_read_and_written_by_its_field(rt: HostRuntime) -> Result<(), OutOfMemory> {
     let mut mutator = with_cell(rt.alloc())?;
     let range = only(0x0f);
-    assert_is(&rt, mutator.name(0, 0), Reply::Word(0x0001_0000));
-    assert_is(&rt, mutator.load(0, 0, range), Reply::Value(7));
-    assert_is(&rt, mutator.store(0, 0, range, 8), Reply::Ok);
-    assert_is(&rt, mutator.swap(0, 0, range, 9), Reply::Value(8));
-    assert_is(&rt, mutator.raw_store(0x0001_0000, range, 10), Reply::Ok);
-    assert_is(&rt, mutator.load(0, 0, range), Reply::Value(10));
+    let answers = [
+        mutator.name(0, 0),
+        mutator.load(0, 0, range),
+        mutator.store(0, 0, range, 8),
+        mutator.swap(0, 0, range, 9),
+        mutator.raw_store(0x0001_0000, range, 10),
+        mutator.load(0, 0, range),
+    ];
+    assert_is(
+        &rt,
+        answers,
+        [
+            Reply::Word(0x0001_0000),
+            Reply::Value(7),
+            Reply::Ok,
+            Reply::Value(8),
+            Reply::Ok,
+            Reply::Value(10),
+        ],
+    );
     assert_is(
         &rt,
         mutator.image.words.get(49),
@@ -72,11 +86,24 @@ fn any_word_names_an_entry_by_its_upper_bits(rt: HostRuntime) -> Result<(), OutO
 fn a_tag_outside_the_range_is_a_fault(rt: HostRuntime) -> Result<(), OutOfMemory> {
     let mut mutator = with_cell(rt.alloc())?;
     let other = only(0x17);
-    assert_is(&rt, mutator.load(0, 0, other), Reply::Fault);
-    assert_is(&rt, mutator.store(0, 0, other, 8), Reply::Fault);
-    assert_is(&rt, mutator.swap(0, 0, other, 8), Reply::Fault);
-    assert_is(&rt, mutator.raw_store(0x0001_0000, other, 8), Reply::Fault);
-    assert_is(&rt, mutator.load(0, 0, only(0x0f)), Reply::Value(7));
+    let answers = [
+        mutator.load(0, 0, other),
+        mutator.store(0, 0, other, 8),
+        mutator.swap(0, 0, other, 8),
+        mutator.raw_store(0x0001_0000, other, 8),
+        mutator.load(0, 0, only(0x0f)),
+    ];
+    assert_is(
+        &rt,
+        answers,
+        [
+            Reply::Fault,
+            Reply::Fault,
+            Reply::Fault,
+            Reply::Fault,
+            Reply::Value(7),
+        ],
+    );
     Ok(())
 }
 
@@ -85,10 +112,22 @@ fn a_forged_field_names_what_its_word_names(rt: HostRuntime) -> Result<(), OutOf
     let mut mutator = with_cell(rt.alloc())?;
     let range = only(0x0f);
     assert_eq!(rt; mutator.load(0, 1, range), Reply::Null, "a new field");
-    assert_is(&rt, mutator.forge(0, 1, 0x0001_1234), Reply::Ok);
-    assert_is(&rt, mutator.name(0, 1), Reply::Word(0x0001_1234));
-    assert_is(&rt, mutator.swap(0, 1, range, 8), Reply::Value(7));
-    assert_is(&rt, mutator.load(0, 0, range), Reply::Value(8));
+    let answers = [
+        mutator.forge(0, 1, 0x0001_1234),
+        mutator.name(0, 1),
+        mutator.swap(0, 1, range, 8),
+        mutator.load(0, 0, range),
+    ];
+    assert_is(
+        &rt,
+        answers,
+        [
+            Reply::Ok,
+            Reply::Word(0x0001_1234),
+            Reply::Value(7),
+            Reply::Value(8),
+        ],
+    );
     assert_eq!(rt;
         mutator.forge(0, 1, 0x0004_0000),
         Reply::Ok,
@@ -102,10 +141,23 @@ fn a_forged_field_names_what_its_word_names(rt: HostRuntime) -> Result<(), OutOf
 fn a_variable_that_holds_nothing_makes_a_call_empty(rt: HostRuntime) -> Result<(), OutOfMemory> {
     let mut mutator = with_cell(rt.alloc())?;
     let range = only(0x0f);
-    assert_is(&rt, mutator.name(1, 0), Reply::Empty);
-    assert_is(&rt, mutator.load(1, 0, range), Reply::Empty);
-    assert_is(&rt, mutator.store(1, 0, range, 8), Reply::Empty);
-    assert_is(&rt, mutator.swap(1, 0, range, 8), Reply::Empty);
-    assert_is(&rt, mutator.forge(1, 0, 0x0001_0000), Reply::Empty);
+    let answers = [
+        mutator.name(1, 0),
+        mutator.load(1, 0, range),
+        mutator.store(1, 0, range, 8),
+        mutator.swap(1, 0, range, 8),
+        mutator.forge(1, 0, 0x0001_0000),
+    ];
+    assert_is(
+        &rt,
+        answers,
+        [
+            Reply::Empty,
+            Reply::Empty,
+            Reply::Empty,
+            Reply::Empty,
+            Reply::Empty,
+        ],
+    );
     Ok(())
 }

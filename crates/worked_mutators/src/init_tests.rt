@@ -50,9 +50,12 @@ fn a_take_past_the_committed_segments_commits_the_next_one(
     mutator.new_object(0);
     mutator.new_object(1);
     assert_is(&rt, word(&mutator, 0), 0x0000_0003_0000_0001);
-    assert_is(&rt, mutator.init(0, 0, tag, 1), Reply::Ok);
-    assert_is(&rt, mutator.init(0, 1, tag, 1), Reply::Ok);
-    assert_is(&rt, mutator.init(1, 0, tag, 1), Reply::Ok);
+    let answers = [
+        mutator.init(0, 0, tag, 1),
+        mutator.init(0, 1, tag, 1),
+        mutator.init(1, 0, tag, 1),
+    ];
+    assert_is(&rt, answers, [Reply::Ok, Reply::Ok, Reply::Ok]);
     assert_is(&rt, word(&mutator, 0), 0x0000_0000_0000_0004);
     assert_is(&rt, word(&mutator, ENTRIES + 5), 0x0200_0000_0000_0000);
     assert_is(&rt, mutator.init(1, 1, tag, 1), Reply::Ok);

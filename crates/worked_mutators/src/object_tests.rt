@@ -14,22 +14,46 @@ const SHAPE: Shape = Shape {
 #[test]
 fn objects_are_made_linked_fetched_and_let_go(rt: HostRuntime) -> Result<(), OutOfMemory> {
     let mut mutator = Mutator::fresh(rt.alloc(), SHAPE)?;
-    assert_is(&rt, mutator.new_object(0), Reply::Obj(0));
-    assert_is(&rt, mutator.new_object(1), Reply::Obj(1));
-    assert_is(&rt, mutator.new_object(2), Reply::HeapFull);
-    assert_is(&rt, mutator.link(0, 3, Some(1)), Reply::Ok);
-    assert_is(&rt, mutator.link_global(15, Some(0)), Reply::Ok);
-    assert_is(&rt, mutator.drop_var(0), Reply::Ok);
-    assert_is(&rt, mutator.fetch(5, 0, 3), Reply::Empty);
-    assert_is(&rt, mutator.link(0, 3, None), Reply::Empty);
-    assert_is(&rt, mutator.fetch_global(6, 15), Reply::Obj(0));
-    assert_is(&rt, mutator.fetch(5, 6, 3), Reply::Obj(1));
-    assert_is(&rt, mutator.link(6, 3, None), Reply::Ok);
-    assert_is(&rt, mutator.fetch(5, 6, 3), Reply::Nothing);
-    assert_is(&rt, mutator.link(6, 3, Some(5)), Reply::Empty);
-    assert_is(&rt, mutator.link_global(15, Some(5)), Reply::Empty);
-    assert_is(&rt, mutator.link_global(15, None), Reply::Ok);
-    assert_is(&rt, mutator.fetch_global(6, 15), Reply::Nothing);
+    let answers = [
+        mutator.new_object(0),
+        mutator.new_object(1),
+        mutator.new_object(2),
+        mutator.link(0, 3, Some(1)),
+        mutator.link_global(15, Some(0)),
+        mutator.drop_var(0),
+        mutator.fetch(5, 0, 3),
+        mutator.link(0, 3, None),
+        mutator.fetch_global(6, 15),
+        mutator.fetch(5, 6, 3),
+        mutator.link(6, 3, None),
+        mutator.fetch(5, 6, 3),
+        mutator.link(6, 3, Some(5)),
+        mutator.link_global(15, Some(5)),
+        mutator.link_global(15, None),
+        mutator.fetch_global(6, 15),
+    ];
+    assert_is(
+        &rt,
+        answers,
+        [
+            Reply::Obj(0),
+            Reply::Obj(1),
+            Reply::HeapFull,
+            Reply::Ok,
+            Reply::Ok,
+            Reply::Ok,
+            Reply::Empty,
+            Reply::Empty,
+            Reply::Obj(0),
+            Reply::Obj(1),
+            Reply::Ok,
+            Reply::Nothing,
+            Reply::Empty,
+            Reply::Empty,
+            Reply::Ok,
+            Reply::Nothing,
+        ],
+    );
     Ok(())
 }
 

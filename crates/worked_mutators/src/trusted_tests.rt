@@ -43,23 +43,29 @@ fn a_new_entry_cannot_be_seen_until_it_is_published(rt: HostRuntime) -> Result<(
         mutator.image.pending.first().copied(),
         Some(Some(pending)),
     );
-    assert_is(&rt, mutator.tload(0, Range::one(tag)), Reply::Fault);
+    let answers = [
+        mutator.tload(0, Range::one(tag)),
+        mutator.traw(0x0001_0000, Range::one(tag)),
+        mutator.tnew(0, tag, 8),
+        mutator.publish(0),
+    ];
     assert_is(
         &rt,
-        mutator.traw(0x0001_0000, Range::one(tag)),
-        Reply::Fault,
+        answers,
+        [Reply::Fault, Reply::Fault, Reply::Pending, Reply::Ok],
     );
-    assert_is(&rt, mutator.tnew(0, tag, 8), Reply::Pending);
-    assert_is(&rt, mutator.publish(0), Reply::Ok);
     assert_is(&rt, word(&mutator, ENTRIES + 1), 0x400f_0000_0000_0007);
     assert_is(&rt, mutator.image.pending.first().copied(), Some(None));
-    assert_is(&rt, mutator.tload(0, Range::one(tag)), Reply::Value(7));
+    let answers = [
+        mutator.tload(0, Range::one(tag)),
+        mutator.traw(0x0001_ffff, Range::one(tag)),
+        mutator.publish(0),
+    ];
     assert_is(
         &rt,
-        mutator.traw(0x0001_ffff, Range::one(tag)),
-        Reply::Value(7),
+        answers,
+        [Reply::Value(7), Reply::Value(7), Reply::NotYours],
     );
-    assert_is(&rt, mutator.publish(0), Reply::NotYours);
     Ok(())
 }
 
@@ -77,9 +83,12 @@ fn a_field_that_is_taken_leaves_no_entry_to_publish(rt: HostRuntime) -> Result<(
     assert_is(&rt, mutator.image.pending.first().copied(), Some(None));
     assert_is(&rt, mutator.tnew(1, tag, 9), Reply::Ok);
     assert_is(&rt, word(&mutator, 47), 0x0003_0000);
-    assert_is(&rt, mutator.publish(0), Reply::NotYours);
-    assert_is(&rt, mutator.publish(1), Reply::Ok);
-    assert_is(&rt, mutator.tnew(2, tag, 10), Reply::Full);
+    let answers = [
+        mutator.publish(0),
+        mutator.publish(1),
+        mutator.tnew(2, tag, 10),
+    ];
+    assert_is(&rt, answers, [Reply::NotYours, Reply::Ok, Reply::Full]);
     Ok(())
 }
 
@@ -108,10 +117,23 @@ fn a_variable_that_holds_nothing_makes_each_call_empty(rt: HostRuntime) -> Resul
     let mut mutator = Mutator::fresh(rt.alloc(), SHAPE)?;
     let tag = Tag::of(15).unwrap();
     mutator.new_object(0);
-    assert_is(&rt, mutator.tnew(1, tag, 7), Reply::Empty);
-    assert_is(&rt, mutator.publish(1), Reply::Empty);
-    assert_is(&rt, mutator.tload(1, Range::one(tag)), Reply::Empty);
-    assert_is(&rt, mutator.share(1, 0), Reply::Empty);
-    assert_is(&rt, mutator.share(0, 1), Reply::Empty);
+    let answers = [
+        mutator.tnew(1, tag, 7),
+        mutator.publish(1),
+        mutator.tload(1, Range::one(tag)),
+        mutator.share(1, 0),
+        mutator.share(0, 1),
+    ];
+    assert_is(
+        &rt,
+        answers,
+        [
+            Reply::Empty,
+            Reply::Empty,
+            Reply::Empty,
+            Reply::Empty,
+            Reply::Empty,
+        ],
+    );
     Ok(())
 }

@@ -1,4 +1,5 @@
 // Whole runs over memory: worked scripts and their reports, and each answer of the top call.
+use crate::asserts::assert_is;
 use ept_io::{MemorySink, MemorySource};
 use script_reader::ScriptErr;
 use std::process::Abort;
@@ -69,8 +70,11 @@ pub(crate) fn check_bytes<R: AllocGlobal + Abort + Threads + Sync>(
     let mut source = MemorySource::new(script, setting.piece, fail_read);
     let mut sink = MemorySink::new(alloc, setting.room, setting.piece, fail_write)?;
     let answer = run_main(rt, alloc, words.as_slice(), &mut source, &mut sink);
-    assert_eq!(rt; answer, status, "{bytes} bytes over {setting:?}");
-    assert_eq!(rt; sink.bytes(), text, "{bytes} bytes over {setting:?}");
+    assert_eq!(rt;
+        (answer, sink.bytes()),
+        (status, text),
+        "{bytes} bytes over {setting:?}"
+    );
     Ok(())
 }
 
@@ -362,11 +366,8 @@ fn a_megabyte_of_operations_is_run_and_checked(rt: HostRuntime) -> Result<(), Fa
         let mut source = MemorySource::new(script, 65_536, Vec::new(rt.alloc()));
         let mut sink = MemorySink::new(rt.alloc(), 2_097_152, 65_536, Vec::new(rt.alloc()))?;
         let words = vec![in rt.alloc(); String::from_str(rt.alloc(), word)?]?;
-        assert_eq!(rt;
-            run_main(&rt, rt.alloc(), words.as_slice(), &mut source, &mut sink),
-            Status::Ok
-        );
-        assert!(rt; sink.bytes() == text);
+        let answer = run_main(&rt, rt.alloc(), words.as_slice(), &mut source, &mut sink);
+        assert_is(&rt, (answer, sink.bytes() == text), (Status::Ok, true));
     }
     Ok(())
 }
@@ -416,11 +417,8 @@ fn one_byte_past_the_limit_is_too_long(rt: HostRuntime) -> Result<(), Fail> {
         let mut source = MemorySource::new(script, 65_536, Vec::new(rt.alloc()));
         let mut sink = MemorySink::new(rt.alloc(), ROOM, ROOM, Vec::new(rt.alloc()))?;
         let words = vec![in rt.alloc(); String::from_str(rt.alloc(), "run")?]?;
-        assert_eq!(rt;
-            run_main(&rt, rt.alloc(), words.as_slice(), &mut source, &mut sink),
-            status
-        );
-        assert_eq!(rt; sink.bytes(), text.as_bytes());
+        let answer = run_main(&rt, rt.alloc(), words.as_slice(), &mut source, &mut sink);
+        assert_is(&rt, (answer, sink.bytes()), (status, text.as_bytes()));
     }
     Ok(())
 }
@@ -436,6 +434,6 @@ fn each_status_has_its_code(rt: HostRuntime) {
         (Status::OutOfMemory, 6),
         (Status::TooLong, 7),
     ] {
-        assert_eq!(rt; status.code(), code);
+        assert_is(&rt, status.code(), code);
     }
 }

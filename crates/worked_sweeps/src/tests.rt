@@ -2,6 +2,7 @@
 ghost use Rattle.std.specs.Prelude.{◌≡◌};
 ghost use Rattle.entry_word.specs.Image.{IsValidShape};
 
+use crate::asserts::assert_is;
 use entry_word::{Image, Shape};
 use plain_table::{Compaction, OutOfMemory, Policy, SweepReport};
 use std::alloc::Global;
@@ -47,9 +48,7 @@ fn an_empty_table_has_no_area_and_keeps_nothing(rt: HostRuntime) -> Result<(), O
     };
     for policy in [Policy::Auto, Policy::Always, Policy::Never] {
         let (start, scans, report) = cycle(rt.alloc(), shape, policy)?;
-        assert_eq!(rt; start, None);
-        assert_eq!(rt; scans, 0);
-        assert_eq!(rt; report, NOTHING);
+        assert_is(&rt, (start, scans, report), (None, 0, NOTHING));
     }
     Ok(())
 }
@@ -63,9 +62,7 @@ fn the_largest_spaces_are_swept(rt: HostRuntime) -> Result<(), OutOfMemory> {
         objects: 16384,
     };
     let (start, scans, report) = cycle(rt.alloc(), shape, Policy::Auto)?;
-    assert_eq!(rt; start, None);
-    assert_eq!(rt; scans, 0);
-    assert_eq!(rt; report, NOTHING);
+    assert_is(&rt, (start, scans, report), (None, 0, NOTHING));
     Ok(())
 }
 
@@ -78,18 +75,19 @@ fn the_masks_of_five_words(rt: HostRuntime) {
         0x080f_0000_0000_00c0,
         0x0400_0000_0000_0006,
     ];
-    assert_eq!(rt; mark_mask(&words), 2);
-    assert_eq!(rt; cell_mask(&words), 10);
-    assert_eq!(rt; evac_mask(&words), 16);
-    assert_eq!(rt; mark_mask(&words[..0]), 0);
+    let masks = (mark_mask(&words), cell_mask(&words), evac_mask(&words));
+    assert_is(&rt, (masks, mark_mask(&[])), ((2, 10, 16), 0));
 }
 
 #[test]
 fn the_marks_of_a_whole_segment(rt: HostRuntime) {
     let mut words = [0x400f_0000_0000_00c0; 64];
-    assert_eq!(rt; mark_mask(&words), u64::MAX);
-    assert_eq!(rt; cell_mask(&words), u64::MAX);
+    let before = (mark_mask(&words), cell_mask(&words));
     clear_marks(&mut words);
-    assert_eq!(rt; mark_mask(&words), 0);
-    assert_eq!(rt; words[63], 0x000f_0000_0000_00c0);
+    let after = (mark_mask(&words), words[63]);
+    assert_is(
+        &rt,
+        (before, after),
+        ((u64::MAX, u64::MAX), (0, 0x000f_0000_0000_00c0)),
+    );
 }

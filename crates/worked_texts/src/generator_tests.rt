@@ -1,4 +1,5 @@
 // The generated script as text, single lines of it, and the words of seeds.
+use crate::asserts::assert_is;
 use plain_table::Op;
 use script_generator::{generate, seed_of};
 use script_reader::{parse, print};
@@ -8,26 +9,33 @@ use std::test::Fail;
 fn is_read_back(rt: HostRuntime) -> Result<(), Fail> {
     let script = generate(rt.alloc(), u64::MAX)?;
     let text = print(rt.alloc(), &script)?;
-    assert!(rt; text.len() < 1_000_000);
     let first = "ept 1 seg=16 ext=4096 tru=1 objects=10000 mutators=8 markers=4\nstart auto\n\
         m0 new a\nm0 init a 0 0f ffffffffffff\nm0 getg b 0\nm0 link a 0 b\nm0 setg 0 a\n\
         m0 new a\nm0 init a 0 17 000000000000\nm0 new a\nm0 init a 0 1b 000000000001\n";
     let last = "m7 drop a\nm7 drop b\nstart auto\nfinish\nstart auto\nfinish\nend\n";
-    assert!(rt; text.as_str().starts_with(first));
-    assert!(rt; text.as_str().ends_with(last));
+    let is_short = text.len() < 1_000_000;
+    let has_ends = (
+        text.as_str().starts_with(first),
+        text.as_str().ends_with(last),
+    );
     let read = parse(rt.alloc(), text.as_bytes())?;
     let again = print(rt.alloc(), &read)?;
-    assert_eq!(rt; again.as_str(), text.as_str());
+    let is_same = again.as_str() == text.as_str();
+    assert_is(
+        &rt,
+        (is_short, has_ends, is_same),
+        (true, (true, true), true),
+    );
     Ok(())
 }
 
 #[test]
 fn counts_its_lines(rt: HostRuntime) -> Result<(), Fail> {
     let script = generate(rt.alloc(), 0)?;
-    assert_eq!(rt; script.phases.len(), 17);
     let text = print(rt.alloc(), &script)?;
     // the header, 22,816 operations, 16 meets and the end
-    assert_eq!(rt; text.as_str().lines().count(), 22_834);
+    let counts = (script.phases.len(), text.as_str().lines().count());
+    assert_is(&rt, counts, (17, 22_834));
     Ok(())
 }
 
@@ -35,15 +43,9 @@ fn counts_its_lines(rt: HostRuntime) -> Result<(), Fail> {
 fn a_mutator_makes_its_objects(rt: HostRuntime) -> Result<(), Fail> {
     let script = generate(rt.alloc(), 5)?;
     // the third round, and mutator 3 in it
-    let Some(phase) = script.phases.get(5) else {
-        assert!(rt; false, "no third round");
-        return Ok(());
-    };
-    let Some(ops) = phase.calls.get(3) else {
-        assert!(rt; false, "no mutator 3");
-        return Ok(());
-    };
-    assert_eq!(rt; ops.len(), 475);
+    let phase = script.phases.get(5).expect(&rt, "no third round");
+    let ops = phase.calls.get(3).expect(&rt, "no mutator 3");
+    assert_is(&rt, ops.len(), 475);
     for (place, want) in [
         (0, Op::New { var: 0 }),
         (
@@ -82,7 +84,7 @@ fn a_mutator_makes_its_objects(rt: HostRuntime) -> Result<(), Fail> {
             },
         ),
     ] {
-        assert_eq!(rt; ops.get(place).copied(), Some(want));
+        assert_is(&rt, ops.get(place).copied(), Some(want));
     }
     Ok(())
 }
@@ -105,6 +107,6 @@ fn a_seed_has_no_leading_zero(rt: HostRuntime) {
         ("7 ", None),
         ("1f", None),
     ] {
-        assert_eq!(rt; seed_of(word), want, "at {word}");
+        assert_is(&rt, (word, seed_of(word)), (word, want));
     }
 }

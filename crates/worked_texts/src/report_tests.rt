@@ -1,3 +1,4 @@
+use crate::asserts::assert_is;
 use plain_table::{Compaction, MeetReport, Outcome, PhaseReport, Reply, SweepReport};
 use report_text::{fault_text, soak_text, text};
 use script_reader::{OutOfMemory, ScriptErr};
@@ -123,7 +124,8 @@ fn prints_each_line(rt: HostRuntime) -> Result<(), OutOfMemory> {
     ];
     for (mutators, meet, want) in cases {
         let outcome = outcome_of(rt.alloc(), mutators, meet)?;
-        assert_eq!(rt; text(rt.alloc(), &outcome)?.as_str(), want);
+        let text = text(rt.alloc(), &outcome)?;
+        assert_is(&rt, text.as_str(), want);
     }
     Ok(())
 }
@@ -139,10 +141,8 @@ fn sums_an_outcome_up(rt: HostRuntime) -> Result<(), OutOfMemory> {
         puts: 9600,
     };
     let line = soak_text(rt.alloc(), &outcome)?;
-    assert_eq!(rt;
-        line.as_str(),
-        "soak live=1200 sum=00000057d5f0 gone=8400\n"
-    );
+    let want = "soak live=1200 sum=00000057d5f0 gone=8400\n";
+    assert_is(&rt, line.as_str(), want);
     Ok(())
 }
 
@@ -161,7 +161,8 @@ fn names_each_refusal(rt: HostRuntime) -> Result<(), OutOfMemory> {
         ),
         (ScriptErr::OutOfMemory, ""),
     ] {
-        assert_eq!(rt; fault_text(rt.alloc(), &refusal)?.as_str(), want);
+        let text = fault_text(rt.alloc(), &refusal)?;
+        assert_is(&rt, text.as_str(), want);
     }
     Ok(())
 }

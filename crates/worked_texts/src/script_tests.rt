@@ -1,8 +1,10 @@
 // Texts, what the grammar makes of them, and their canonical texts.
+use crate::asserts::assert_is;
 use script_reader::{
     ScriptErr, parse, print, printed_is_read_back, push_hex, upgrade, upgraded_is_valid,
 };
 use std::alloc::{AllocError, Global};
+use std::process::Abort;
 use std::test::Fail;
 
 const HEADER: &str = "ept 1 seg=4 ext=1 tru=1 objects=1 mutators=2 markers=0\n";
@@ -65,73 +67,72 @@ fn refuses_each_fault_at_its_line(rt: HostRuntime) -> Result<(), Fail> {
     ];
     for (body, want) in cases {
         let text = format!(in rt.alloc(); "{HEADER}{body}")?;
-        match parse(rt.alloc(), text.as_bytes()) {
-            Ok(_) => assert!(rt; false, "{text} is read"),
-            Err(refusal) => assert_eq!(rt; refusal, want, "at {text}"),
-        }
+        let refusal = parse(rt.alloc(), text.as_bytes()).err();
+        assert_is(&rt, (body, refusal), (body, Some(want)));
     }
     Ok(())
 }
 
-// The refusal of line 2 of a script of version 2, whose line 3 is the end.
-fn refusal_in_version_2(alloc: Global, line: &str) -> Result<Option<ScriptErr>, AllocError> {
+// Each line, as the only one between the header of version 2 and the end, is refused for its tag.
+fn assert_bad_tags(rt: &(impl AllocGlobal + Abort), lines: &[&str]) -> Result<(), Fail> {
     let header = "ept 2 seg=4 ext=1 tru=1 objects=1 mutators=1 markers=0\n";
-    let text = format!(in alloc; "{header}{line}\nend\n")?;
-    Ok(parse(alloc, text.as_bytes()).err())
+    for line in lines {
+        let text = format!(in rt.alloc(); "{header}{line}\nend\n")?;
+        let refusal = parse(rt.alloc(), text.as_bytes()).err();
+        assert_is(
+            rt,
+            (*line, refusal),
+            (*line, Some(ScriptErr::BadTag { line: 2 })),
+        );
+    }
+    Ok(())
 }
 
 #[test]
 fn a_range_of_one_has_no_dash(rt: HostRuntime) -> Result<(), Fail> {
-    let refusal = refusal_in_version_2(rt.alloc(), "m0 load a 0 20-20")?;
-    assert_eq!(rt; refusal, Some(ScriptErr::BadTag { line: 2 }));
-    Ok(())
+    assert_bad_tags(&rt, &["m0 load a 0 20-20"])
 }
 
 #[test]
 fn a_range_does_not_run_backwards(rt: HostRuntime) -> Result<(), Fail> {
-    let refusal = refusal_in_version_2(rt.alloc(), "m0 load a 0 21-20")?;
-    assert_eq!(rt; refusal, Some(ScriptErr::BadTag { line: 2 }));
-    Ok(())
+    assert_bad_tags(&rt, &["m0 load a 0 21-20"])
 }
 
 #[test]
 fn no_tag_is_00(rt: HostRuntime) -> Result<(), Fail> {
-    for line in [
-        "m0 init a 0 00 0000000000c0",
-        "m0 load a 0 00",
-        "m0 load a 0 00-20",
-    ] {
-        let refusal = refusal_in_version_2(rt.alloc(), line)?;
-        assert_eq!(rt; refusal, Some(ScriptErr::BadTag { line: 2 }), "at {line}");
-    }
-    Ok(())
+    assert_bad_tags(
+        &rt,
+        &[
+            "m0 init a 0 00 0000000000c0",
+            "m0 load a 0 00",
+            "m0 load a 0 00-20",
+        ],
+    )
 }
 
 #[test]
 fn a_cell_has_one_tag_and_no_range(rt: HostRuntime) -> Result<(), Fail> {
-    for line in [
-        "m0 init a 0 20-21 0000000000c0",
-        "m0 tnew a 20-21 0000000000c0",
-    ] {
-        let refusal = refusal_in_version_2(rt.alloc(), line)?;
-        assert_eq!(rt; refusal, Some(ScriptErr::BadTag { line: 2 }), "at {line}");
-    }
-    Ok(())
+    assert_bad_tags(
+        &rt,
+        &[
+            "m0 init a 0 20-21 0000000000c0",
+            "m0 tnew a 20-21 0000000000c0",
+        ],
+    )
 }
 
 #[test]
 fn a_misspelled_range_is_no_range(rt: HostRuntime) -> Result<(), Fail> {
-    for line in [
-        "m0 load a 0 20-",
-        "m0 load a 0 20_21",
-        "m0 load a 0 2-021",
-        "m0 load a 0 20-2F",
-        "m0 load a 0 20-21-22",
-    ] {
-        let refusal = refusal_in_version_2(rt.alloc(), line)?;
-        assert_eq!(rt; refusal, Some(ScriptErr::BadTag { line: 2 }), "at {line}");
-    }
-    Ok(())
+    assert_bad_tags(
+        &rt,
+        &[
+            "m0 load a 0 20-",
+            "m0 load a 0 20_21",
+            "m0 load a 0 2-021",
+            "m0 load a 0 20-2F",
+            "m0 load a 0 20-21-22",
+        ],
+    )
 }
 
 #[test]
@@ -155,10 +156,8 @@ fn refuses_each_bad_header(rt: HostRuntime) -> Result<(), Fail> {
         "ept 1 seg=4 ext=1 tru=1 objects=1 mutators=1 markers=0 \nend\n",
     ];
     for text in cases {
-        match parse(rt.alloc(), text.as_bytes()) {
-            Ok(_) => assert!(rt; false, "{text} is read"),
-            Err(refusal) => assert_eq!(rt; refusal, ScriptErr::BadHeader, "at {text}"),
-        }
+        let refusal = parse(rt.alloc(), text.as_bytes()).err();
+        assert_is(&rt, (text, refusal), (text, Some(ScriptErr::BadHeader)));
     }
     Ok(())
 }
@@ -188,7 +187,7 @@ fn prints_what_it_read(rt: HostRuntime) -> Result<(), Fail> {
     for (text, want) in cases {
         let script = parse(rt.alloc(), text.as_bytes())?;
         let printed = print(rt.alloc(), &script)?;
-        assert_eq!(rt; printed.as_str(), want);
+        assert_is(&rt, printed.as_str(), want);
     }
     Ok(())
 }
@@ -201,7 +200,7 @@ fn an_upgraded_script_has_version_2(rt: HostRuntime) -> Result<(), Fail> {
     upgraded_is_valid();
     let script = upgrade(parse(rt.alloc(), text.as_bytes())?);
     let printed = print(rt.alloc(), &script)?;
-    assert_eq!(rt; printed.as_str(), want.as_str());
+    assert_is(&rt, printed.as_str(), want.as_str());
     Ok(())
 }
 
@@ -215,7 +214,7 @@ fn hexadecimal_digits_are_the_last_ones(rt: HostRuntime) -> Result<(), Fail> {
     ] {
         let mut text = String::new(rt.alloc());
         push_hex(&mut text, digits, number)?;
-        assert_eq!(rt; text.as_str(), want);
+        assert_is(&rt, text.as_str(), want);
     }
     Ok(())
 }
@@ -239,10 +238,8 @@ fn refuses_an_operation_too_many(rt: HostRuntime) -> Result<(), Fail> {
     ];
     for (count, want) in cases {
         let text = drops(rt.alloc(), count)?;
-        match parse(rt.alloc(), text.as_bytes()) {
-            Ok(_) => assert!(rt; want.is_none()),
-            Err(refusal) => assert_eq!(rt; Some(refusal), want),
-        }
+        let refusal = parse(rt.alloc(), text.as_bytes()).err();
+        assert_is(&rt, (count, refusal), (count, want));
     }
     Ok(())
 }
